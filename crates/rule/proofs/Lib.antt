@@ -1,0 +1,5 @@
+-- Lemmas on windows, cuts and rules.
+pub mod Forming
+pub mod Piling
+pub mod Repeating
+pub mod Bounding

@@ -1,0 +1,5 @@
+-- What the contracts of rules cite.
+pub mod Windows
+pub mod Cuts
+pub mod Laws
+pub mod Bounds
