@@ -12,7 +12,9 @@ use lib.Seq.{drop-cons}
 use Rattle.std.proofs.shelf.Tests.{both-ways, cases-bool, cond-true, cond-false, and-cases, and-parts, and-from, and-right, eqb-true, eqb-false, eq-eqb}
 use Rattle.sheet.specs.declared.records.Window.{Window}
 use Rattle.rule.specs.Windows.{window, window-of, same, formed, Formed, Within, Inside}
-use Rattle.rule.specs.Cuts.{Cut, dead, live, then-cut, width, repeated-for, repeated}
+use Rattle.rule.specs.declared.standstill.Round.the-variants.{Still, Narrowed}
+use Rattle.rule.specs.Cuts.{Cut, dead, live, left, then-cut, width, repeated-for, repeated}
+use Rattle.rule.specs.Rounds.{round-of}
 use Rattle.rule.specs.Laws.{Keeps, Repeats, ends-dead, ends-still, goes-on}
 use Rattle.rule.proofs.Forming.{formed-fact, formed-test, within-formed, within-within, still-within, window-eq}
 use Rattle.rule.proofs.Piling.{then-live, then-keeps}
@@ -80,6 +82,14 @@ same-itself (w ∷ ws) = and-from _ _ (and-from _ _ (eq-eqb (w .lo) (w .lo) refl
 pub same-false : (vs ws : List Window) → same vs ws ≡ false → vs ≡ ws → ⊥
 same-false vs ws t e = both-ways _ t (subst (λ (us : List Window). same us ws ≡ true) (sym e) (same-itself ws))
 
+narrowed-live : (c : Cut) (ws : List Window) → round-of c ws ≡ Narrowed → (c ≡ live (left c ws)) × (same (left c ws) ws ≡ false)
+narrowed-live dead ws e = let z : _≡_ {A = ℕ} 0 1 = cc in absurd (omega arith)
+narrowed-live (live vs) ws e =
+    ⊎-elim
+    (λ (t : same vs ws ≡ true). let q : Still ≡ Narrowed = sym (cond-true _ _ _ t) ∙ e in let z : _≡_ {A = ℕ} 0 1 = cc in absurd (omega arith))
+    (λ (t : same vs ws ≡ false). (refl, t))
+    (cases-bool (same vs ws))
+
 module _ (f : List Window → Cut) (jobs : ℕ) (one : (ws vs : List Window) → Formed jobs ws → f ws ≡ live vs → Within vs ws) where
   pub repeated-within : (n : ℕ) (ws us : List Window) → Formed jobs ws → repeated-for f n ws ≡ live us → Within us ws
   repeated-within zero ws us a e = subst (λ (x : List Window). Within x ws) (live-same ws us e) (still-within ws a)
@@ -132,14 +142,17 @@ module _ (f : List Window → Cut) (jobs : ℕ) (one : (ws vs : List Window) →
     pub narrower : width vs < width ws
     pub goes-on : repeated f vs ≡ repeated f ws
 
-  pub round : (ws vs : List Window) → formed jobs ws ≡ true → f ws ≡ live vs → same vs ws ≡ false → Round ws vs
-  round ws vs h e t =
+  pub narrowing-round : (ws vs : List Window) → formed jobs ws ≡ true → round-of (f ws) ws ≡ Narrowed → vs ≡ left (f ws) ws → Round ws vs
+  narrowing-round ws vs h e q =
+      let d = narrowed-live (f ws) ws e in
+      let l : f ws ≡ live vs = d .0 ∙ ap live (sym q) in
+      let t : same vs ws ≡ false = ap (λ (us : List Window). same us ws) q ∙ d .1 in
       let a = formed-fact ws h in
-      let w = one ws vs a e in
+      let w = one ws vs a l in
       record {
         well-formed = formed-test vs (within-formed vs ws a w);
         narrower = width-less vs ws w t;
-        goes-on = sym (repeated-again ws vs a e t);
+        goes-on = sym (repeated-again ws vs a l t);
       }
 
   repeats-round : (n : ℕ) → ((vs : List Window) → Formed jobs vs → width vs < n → Repeats f vs (repeated-for f n vs)) → (ws : List Window) → Formed jobs ws → width ws < suc n → (c : Cut) → f ws ≡ c → Repeats f ws (then-cut c (λ vs. cond (same vs ws) (live vs) (repeated-for f n vs)))

@@ -3,3 +3,4 @@ pub mod Windows
 pub mod Cuts
 pub mod Laws
 pub mod Bounds
+pub mod Rounds

@@ -5,9 +5,11 @@ ghost use mathlib.Core.Bool.{true};
 ghost use lib.ListN.{length};
 ghost use Rattle.sheet.specs.declared.records.Window.{Window};
 ghost use Rattle.sheet.specs.Entries.{Entries};
+ghost use Rattle.sheet.specs.Sheets.{entries};
 ghost use Rattle.sheet.specs.Sound.{Sound};
 ghost use Rattle.rule.specs.Windows.{formed};
-ghost use Rattle.rule.specs.Cuts.{repeated};
+ghost use Rattle.rule.specs.Cuts.{left, repeated};
+ghost use Rattle.rule.specs.Rounds.{round-of};
 ghost use Rattle.rule.specs.Laws.{Repeats};
 use crate::narrowing::Rule;
 use crate::verdict::Verdict;
@@ -31,26 +33,49 @@ impl<A: Rule> Standstill<A> {
     }
 }
 
+/// What one round of a rule comes to.
+#[derive(Clone, Copy)]
+pub enum Round {
+    Dead,
+    Still,
+    Narrowed,
+}
+
+/// Narrows the windows once more, and tells whether that changed something.
+fn go_round<A: Rule>(rule: &A, sheet: &Sheet, windows: &mut [Window]) -> Round
+    requires { ⌜ formed (length (entries (now sheet) .jobs)) (now windows) ≡ true ⌝ }
+    ensures answer { λ r. ⌜ r ≡ round-of (A·Rule .cut (now (rule .entry)) (entries (now (sheet .entry))) (now (windows .entry))) (now (windows .entry)) ⌝ }
+    ensures after { λ _. ⌜ now (windows .exit) ≡ left (A·Rule .cut (now (rule .entry)) (entries (now (sheet .entry))) (now (windows .entry))) (now (windows .entry)) ⌝ }
+{
+    let mut store = [BLANK_WINDOW; MAX_JOBS];
+    let before = &mut store[0..windows.len()];
+    before.copy_from_slice(windows);
+    if let Verdict::Dead = rule.propagate(sheet, windows) {
+        return Round::Dead;
+    }
+    if unchanged(windows, before) {
+        return Round::Still;
+    }
+    Round::Narrowed
+}
+
 pub impl<A: Rule> Rule for Standstill<A> as StandstillRule {
     ghost admits = { λ r e t. A·Rule .admits (r .0) e t };
 
     ghost cut = { λ r e ws. repeated (A·Rule .cut (r .0) e) ws };
 
     fn propagate(&self, sheet: &Sheet, windows: &mut [Window]) -> Verdict {
-        let n = windows.len();
-        let mut handed_store = [BLANK_WINDOW; MAX_JOBS];
-        let mut before_store = [BLANK_WINDOW; MAX_JOBS];
-        let handed = &mut handed_store[0..n];
-        let before = &mut before_store[0..n];
+        let mut store = [BLANK_WINDOW; MAX_JOBS];
+        let handed = &mut store[0..windows.len()];
         handed.copy_from_slice(windows);
         loop {
-            before.copy_from_slice(windows);
-            if let Verdict::Dead = self.0.propagate(sheet, windows) {
-                windows.copy_from_slice(handed);
-                return Verdict::Dead;
-            }
-            if unchanged(windows, before) {
-                return Verdict::Alive;
+            match go_round(&self.0, sheet, windows) {
+                Round::Dead => {
+                    windows.copy_from_slice(handed);
+                    return Verdict::Dead;
+                }
+                Round::Still => return Verdict::Alive,
+                Round::Narrowed => {}
             }
         }
     }
