@@ -24,14 +24,11 @@ add-job b j = unless-refused (enter-answer b j) (with-job b j)
 abbrev pub add-link : Entries → Link → Result Entries Refusal
 add-link b l = unless-refused (link-answer b l) (with-link b l)
 
-abbrev pub add-jobs : Entries → List Job → Result Entries Refusal
-add-jobs b [] = Ok b
-add-jobs b (j ∷ js) = then (add-job b j) (λ c. add-jobs c js)
-
-abbrev pub add-links : Entries → List Link → Result Entries Refusal
-add-links b [] = Ok b
-add-links b (l ∷ ls) = then (add-link b l) (λ c. add-links c ls)
+-- one after another
+abbrev pub add-all : {X : Type 0} → (Entries → X → Result Entries Refusal) → Entries → List X → Result Entries Refusal
+add-all add b [] = Ok b
+add-all add b (x ∷ xs) = then (add b x) (λ c. add-all add c xs)
 
 -- an empty sheet takes all the jobs and then all the links
 abbrev pub Enterable : Entries → Type 0
-Enterable b = then (add-jobs no-entries (b .jobs)) (λ c. add-links c (b .links)) ≡ Ok b
+Enterable b = then (add-all add-job no-entries (b .jobs)) (λ c. add-all add-link c (b .links)) ≡ Ok b

@@ -16,4 +16,4 @@ returns-in-Break-others c = rw (c .from-residual-in-Break-others .ensures) (sym 
 pub returns : need.returns
 returns c =
     sym (c .in-Continue-after-space .ensures tt 4 ∙ c .in-Continue-first .ensures tt 2 ∙ ap (in-front (Some (c .in-Continue-first .first))) (sym (c .in-Continue-others .ensures tt))
-      ∙ ap (λ (ns : List _). Some (c .in-Continue-first .first ∷ ns)) (three-numbers (c .in-Continue-others .others) (omega arith)))
+    ∙ ap (λ (ns : List _). Some (c .in-Continue-first .first ∷ ns)) (three-numbers (c .in-Continue-others .others) (omega arith)))

@@ -10,15 +10,17 @@ use Rattle.slip.proofs.number.digits_value.Needs.{then-byte-lt48·by·then-byt
 
 pub loop-byte-again : need.loop-byte-again
 loop-byte-again c =
-    let p : 10 ^ (c .loop-byte .byte-index + 1) ≡ 10 ^ c .loop-byte .byte-index * 10 = rw add-one (pow-suc 10 (c .loop-byte .byte-index)) in
-    ( omega arith
-    , sym (at-digit _ _ (c .loop-byte .byte-index) (c .loop-byte-test .taken) (c .if-byte-lt48 .left) (c .if-byte-gt57 .left)) ∙ c .loop-byte .inv .1 )
+    let p : 10 ^ (c .loop-byte .byte-index + 1) ≡ 10 ^ c .loop-byte .byte-index * 10 = rw add-one (pow-suc 10 (c .loop-byte .byte-index)) in (
+      omega arith,
+      sym (at-digit _ _ (c .loop-byte .byte-index) (c .loop-byte-test .taken) (c .if-byte-lt48 .left) (c .if-byte-gt57 .left)) ∙ c .loop-byte .inv .1,
+    )
 
 pub returns-then-byte-lt48 : need.returns-then-byte-lt48
 returns-then-byte-lt48 c =
     elim (c .then-byte-lt48 .came) [
-      then-byte-lt48·by·then-byte-lt48 w ↦ sym (below-digits _ _ (c .loop-byte .byte-index) (c .loop-byte-test .taken) (w .if-byte-lt48 .taken)) ∙ c .loop-byte .inv .1
-    | then-byte-lt48·by·else-byte-lt48·then-byte-gt57 w ↦ sym (above-digits _ _ (c .loop-byte .byte-index) (c .loop-byte-test .taken) (w .if-byte-gt57 .taken)) ∙ c .loop-byte .inv .1 ]
+      | then-byte-lt48·by·then-byte-lt48 w ↦ sym (below-digits _ _ (c .loop-byte .byte-index) (c .loop-byte-test .taken) (w .if-byte-lt48 .taken)) ∙ c .loop-byte .inv .1
+      | then-byte-lt48·by·else-byte-lt48·then-byte-gt57 w ↦ sym (above-digits _ _ (c .loop-byte .byte-index) (c .loop-byte-test .taken) (w .if-byte-gt57 .taken)) ∙ c .loop-byte .inv .1
+    ]
 
 pub returns : need.returns
 returns c = after-digits _ _ (c .loop-byte .byte-index) (c .loop-byte-test .left) ∙ c .loop-byte .inv .1

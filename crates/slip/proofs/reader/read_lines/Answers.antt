@@ -13,7 +13,8 @@ loop-line-again c =
     let d = entries (c .read-line .last .sheet) in
     let e = sym (c .in-Continue-at .ensures tt) in
     let m = line-moves (c .loop-line .at) b (c .in-Some .line .now) (c .in-Continue-at .at) d e in
-    let n = c .in-Some .ensures tt .lengths in
-    ( line-done (c .loop-line .at) b (c .in-Some .line .now) (c .in-Continue-at .at) d (split line-end (c .in-Some .after .now)) (split line-end (c .loop-line .rest .now)) (c .in-Some .ensures tt .parts) e ∙ c .loop-line .inv .0
-    , omega arith
-    , omega arith )
+    let n = c .in-Some .ensures tt .lengths in (
+      line-done (c .loop-line .at) b (c .in-Some .line .now) (c .in-Continue-at .at) d (split line-end (c .in-Some .after .now)) (split line-end (c .loop-line .rest .now)) (c .in-Some .ensures tt .parts) e ∙ c .loop-line .inv .0,
+      omega arith,
+      omega arith,
+    )

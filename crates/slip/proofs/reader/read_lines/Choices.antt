@@ -11,8 +11,8 @@ use Rattle.slip.proofs.reader.read_lines.Given as given
 abbrev pub Inv-loop-line : given.InvT-loop-line
 Inv-loop-line l =
     (read-lines (l .at) (entries (l .sheet)) (split line-end (l .rest)) ≡ read-lines (l .entry .at) (entries (l .entry .sheet)) (split line-end (l .entry .rest)))
-  × (l .at .place + length (l .rest) ≤ longest-slip)
-  × (l .at .line ≤ l .at .place + 1)
+    × (l .at .place + length (l .rest) ≤ longest-slip)
+    × (l .at .line ≤ l .at .place + 1)
 
 abbrev pub μ-loop-line : given.MeasureT-loop-line
 μ-loop-line l = length (l .rest)
