@@ -1,6 +1,6 @@
 -- How far one line takes the reader.
 use Prim.Native.Nat.{ℕ, _+_, _-_, _<_}
-use mathlib.Core.Path.{_≡_, refl, ap, subst}
+use mathlib.Core.Path.{_≡_, refl, sym, ap, subst}
 use mathlib.Core.Bool.{Bool}
 use mathlib.Core.List.{List, [], _∷_}
 use native.Mathlib.Omega.{arith}
@@ -40,9 +40,9 @@ kind-moves at b (Some LinkLine) fs to c q = subst (Past at (length fs)) (then-pa
 kind-moves at b (Some Trailer) fs to c q = subst (Past at (length fs)) (then-past (read-trailer (at .line) b (place-or (at .linked) (at .place)) fs) (past-trailer at (length fs)) to c q .0) (refl, refl)
 kind-moves at b None fs to c q = err-ok _ _ q
 
-pub line-moves : (at : Progress) (b : Entries) (l : List ℕ) (to : Progress) (c : Entries) → read-line at b l ≡ Ok (to, c) → (to .line ≡ at .line + 1) × (to .place ≡ at .place + length l + 1)
-line-moves at b [] to c q = err-ok _ _ q
-line-moves at b (x ∷ fs) to c q = let m = kind-moves at b (kind-of x (isSome (at .linked)) (at .ended)) fs to c q in (m .0, omega arith)
+pub line-moves : (at : Progress) (b : Entries) (l : List ℕ) (to : Progress) (c : Entries) → Ok (to, c) ≡ read-line at b l → (to .line ≡ at .line + 1) × (to .place ≡ at .place + length l + 1)
+line-moves at b [] to c q = err-ok _ _ (sym q)
+line-moves at b (x ∷ fs) to c q = let m = kind-moves at b (kind-of x (isSome (at .linked)) (at .ended)) fs to c (sym q) in (m .0, omega arith)
 
-pub line-done : (at : Progress) (b : Entries) (l : List ℕ) (to : Progress) (c : Entries) (ps qs : Parts) → qs ≡ next l ps → read-line at b l ≡ Ok (to, c) → read-lines to c ps ≡ read-lines at b qs
-line-done at b l to c ps qs e q = rw (e, q)
+pub line-done : (at : Progress) (b : Entries) (l : List ℕ) (to : Progress) (c : Entries) (ps qs : Parts) → qs ≡ next l ps → Ok (to, c) ≡ read-line at b l → read-lines to c ps ≡ read-lines at b qs
+line-done at b l to c ps qs e q = rw (e, ← q)

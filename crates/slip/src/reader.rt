@@ -49,13 +49,11 @@ fn read_bytes(sheet: &mut Sheet, bytes: &[u8]) -> Result<(), Fault>
     if bytes.len() > MAX_SLIP {
         return Err(Fault::TooLong);
     }
-    match read_lines(sheet, bytes) {
-        Ok(()) => Ok(()),
-        Err(fault) => {
-            *sheet = Sheet::new();
-            Err(fault)
-        }
+    let answer = read_lines(sheet, bytes);
+    if answer.is_err() {
+        *sheet = Sheet::new();
     }
+    answer
 }
 
 /// Reads a slip into the sheet, which is emptied first and is empty after a fault.

@@ -1,5 +1,5 @@
 -- One line more is read.
-use mathlib.Core.Path.{sym, _∙_}
+use mathlib.Core.Path.{_∙_}
 use native.Mathlib.Omega.{arith}
 use Rattle.sheet.specs.Sheets.{entries}
 use Rattle.slip.specs.Format.{line-end}
@@ -11,7 +11,7 @@ pub loop-line-again : need.loop-line-again
 loop-line-again c =
     let b = entries (c .loop-line .sheet) in
     let d = entries (c .read-line .last .sheet) in
-    let e = sym (c .in-Continue-at .ensures tt) in
+    let e = c .in-Continue-at .ensures tt in
     let m = line-moves (c .loop-line .at) b (c .in-Some .line .now) (c .in-Continue-at .at) d e in
     let n = c .in-Some .ensures tt .lengths in (
       line-done (c .loop-line .at) b (c .in-Some .line .now) (c .in-Continue-at .at) d (split line-end (c .in-Some .after .now)) (split line-end (c .loop-line .rest .now)) (c .in-Some .ensures tt .parts) e ∙ c .loop-line .inv .0,
