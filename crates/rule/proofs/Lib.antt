@@ -3,3 +3,4 @@ pub mod Forming
 pub mod Piling
 pub mod Repeating
 pub mod Bounding
+pub mod Setting
