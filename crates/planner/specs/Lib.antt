@@ -1,0 +1,3 @@
+-- What the contracts of the planner cite.
+pub mod States
+pub mod Calls

@@ -1,0 +1,4 @@
+// The planner: a draft that is filled and closed, and the search of it that is advanced and reopened.
+pub mod closing;
+pub mod draft;
+pub mod state;
