@@ -9,7 +9,7 @@ use Rattle.std.specs.declared.option.Option.{Option}
 use Rattle.std.specs.declared.option.Option.the-variants.{None}
 use Rattle.std.specs.declared.result.Result.{Result}
 use Rattle.std.specs.declared.result.Result.the-variants.{Ok}
-use Rattle.std.proofs.shelf.Lists.{getD-take}
+use Rattle.std.proofs.shelf.Lists.{getD-take, nil-from-length}
 use Rattle.std.proofs.shelf.Tests.{both-ways, cond-false, lt-leb}
 use Rattle.sheet.specs.declared.records.Window.{Window}
 use Rattle.sheet.specs.declared.refusal.Refusal.{Refusal}
@@ -25,9 +25,13 @@ use Rattle.search.specs.declared.decision.Part.the-variants.{First, Second}
 use Rattle.search.specs.declared.outcome.Outcome.{Outcome}
 use Rattle.search.specs.declared.outcome.Outcome.the-variants.{Open, Found, Impossible}
 use Rattle.search.specs.Deciding.{to-second}
-use Rattle.search.specs.Looks.{State, opened, found, impossible, outcome-of, is-open, by-part, backtracked, branched, one-look, after-looks, looks-made}
-use Rattle.planner.specs.States.{state-as}
+use Rattle.search.specs.Looks.{State, opened, found, impossible, outcome-of, path-of, is-open, by-part, backtracked, branched, one-look, after-looks, looks-made}
+use Rattle.planner.specs.declared.state.Search.{Search}
+use Rattle.planner.specs.States.{state-as, path-in, state-of}
 use Rattle.planner.specs.Calls.{found-start, start-answer}
+
+pub open-not-impossible : {o : Outcome} → o ≡ Open → o ≡ Impossible → ⊥
+open-not-impossible p q = let z : _≡_ {A = ℕ} 0 1 = cc in omega arith
 
 shut-step : (b : Part) (x : State) (q : List Decision) → (false ≡ is-open x → x ≡ impossible) → false ≡ is-open (by-part b (opened q) x) → by-part b (opened q) x ≡ impossible
 shut-step First x q f e = absurd (both-ways _ (sym e) refl)
@@ -37,6 +41,10 @@ shut-step Second x q f e = f e
 pub shut : (p : List Decision) → false ≡ is-open (backtracked p) → backtracked p ≡ impossible
 shut [] e = refl
 shut (d ∷ p) e = shut-step (d .part) (backtracked p) (to-second d ∷ p) (shut p) e
+
+-- and has no decision left
+pub shut-path : (p q : List Decision) → false ≡ is-open (backtracked p) → q ≡ path-of (backtracked p) → length q ≡ 0
+shut-path p q e h = ap length (h ∙ ap path-of (shut p e))
 
 -- where no job is chosen, the starts noted are those of the windows
 pub branched-none : (q : Option ℕ) (ws : List Window) (p : List Decision) (n : ℕ) (ss : List ℕ) → None ≡ q → length ws ≡ n → take (length ws) ss ≡ starts ws → found p (take n ss) ≡ branched q ws p
@@ -74,6 +82,15 @@ pub outcome-read : (o : Outcome) (p : List Decision) (t : List ℕ) → o ≡ ou
 outcome-read Open p t = refl
 outcome-read Found p t = refl
 outcome-read Impossible p t = refl
+
+path-as : (o : Outcome) (p : List Decision) (t : List ℕ) → (o ≡ Impossible → length p ≡ 0) → p ≡ path-of (state-as o p t)
+path-as Open p t f = refl
+path-as Found p t f = refl
+path-as Impossible p t f = nil-from-length p (f refl)
+
+-- the path is that of the state: an impossible search has none
+pub path-read : {P : Type 0} (s : Search P) → path-in s ≡ path-of (state-of s)
+path-read s = path-as (s .outcome) (path-in s) _ (s .«no_path»)
 
 -- searches with one pile and one sheet look alike
 pub look-same : {P : Type 0} (cut : P → Entries → List Window → Cut) (a b : Standstill P) (s t : Sheet) (p : List Decision) → a ≡ b → s ≡ t → one-look (cut (a .0) (entries s)) (entries s) p ≡ one-look (cut (b .0) (entries t)) (entries t) p

@@ -2,9 +2,9 @@
 ghost use mathlib.Core.Path.{_≡_};
 ghost use lib.ListN.{length};
 ghost use Rattle.sheet.specs.Entering.{taken};
-ghost use Rattle.search.specs.Looks.{outcome-of, after-looks, looks-made};
+ghost use Rattle.search.specs.Looks.{outcome-of, path-of, after-looks, looks-made};
 ghost use Rattle.search.specs.Promise.{Composes};
-ghost use Rattle.planner.specs.States.{entries-of, state-of, admits-in, cut-in, look-in};
+ghost use Rattle.planner.specs.States.{entries-of, path-in, state-of, admits-in, cut-in, look-in};
 ghost use Rattle.planner.specs.Calls.{advance-answer, start-answer, Untouched};
 ghost use Rattle.planner.specs.Keeping.{Kept};
 use crate::state::Search;
@@ -49,6 +49,7 @@ impl<P: Rule> Search<P> {
     pub fn advance(&mut self, looks: u32) -> Result<(u32, u32), Refusal>
         ensures answer { λ r. ⌜ r ≡ advance-answer (look-in (P·Rule .cut) (now (self .entry))) looks (state-of (now (self .entry))) ⌝ }
         ensures state { λ r. ⌜ state-of (now (self .exit)) ≡ taken r (state-of (now (self .entry))) (after-looks (look-in (P·Rule .cut) (now (self .entry))) looks (state-of (now (self .entry)))) ⌝ }
+        ensures path { λ _. ⌜ path-in (now (self .exit)) ≡ path-of (state-of (now (self .exit))) ⌝ }
         ensures sheet { λ _. ⌜ now (self .exit) .sheet ≡ now (self .entry) .sheet ⌝ }
         ensures pile { λ _. ⌜ now (self .exit) .pile ≡ now (self .entry) .pile ⌝ }
         ensures refused { λ r. ⌜ Untouched r (now (self .entry)) (now (self .exit)) ⌝ }

@@ -2,6 +2,7 @@
 ghost use mathlib.Core.Path.{_≡_};
 ghost use lib.ListN.{length};
 ghost use Rattle.sheet.specs.Sheets.{entries};
+ghost use Rattle.search.specs.declared.outcome.Outcome.the-variants.{Impossible};
 ghost use Rattle.search.specs.Deciding.{Grown};
 ghost use Rattle.search.specs.Entered.{entered-windows};
 ghost use Rattle.search.specs.Paths.{decisions};
@@ -21,4 +22,5 @@ pub struct Search<P> {
     pub(crate) starts: [u32; MAX_JOBS],
     ghost start_places: { length starts ≡ 48 },
     ghost grown: { Grown (entered-windows (entries sheet)) (decisions path) },
+    ghost no_path: { (outcome ≡ Impossible → length (decisions path) ≡ 0) },
 }

@@ -5,12 +5,14 @@ use Rattle.sheet.proofs.Soundness.{sheet-sound}
 use Rattle.search.proofs.Promised.{keeps-promise}
 use Rattle.search.proofs.Rows.{composes}
 use Rattle.planner.specs.States.{entries-of, state-of, look-in}
+use Rattle.planner.proofs.Reading.{path-read}
 use Rattle.planner.proofs.state.Search.advance.Needs as need
 
 pub returns-then-looks-eq0 : need.returns-then-looks-eq0
 returns-then-looks-eq0 g c = record {
   answer = search needs;
   state = refl;
+  path = path-read (c .args .self .now);
   sheet = refl;
   pile = refl;
   refused = refl;
@@ -26,6 +28,7 @@ returns g c =
     record {
       answer = search needs;
       state = e .state;
+      path = path-read (c .make-looks-outcome .last .self);
       sheet = e .sheet;
       pile = e .pile;
       refused = tt;

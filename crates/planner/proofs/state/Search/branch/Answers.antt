@@ -9,7 +9,7 @@ use Rattle.rule.specs.Laws.{Lawful}
 use Rattle.planner.specs.declared.state.Search.{Search}
 use Rattle.planner.specs.States.{entries-of, path-in, admits-in, cut-in}
 use Rattle.planner.proofs.Narrowed.{narrowed-fine, narrowed-formed, room-left, pushed-grown}
-use Rattle.planner.proofs.Reading.{branched-none}
+use Rattle.planner.proofs.Reading.{open-not-impossible, branched-none}
 use Rattle.planner.proofs.state.Search.branch.Given as given
 use Rattle.planner.proofs.state.Search.branch.Needs as need
 
@@ -27,7 +27,7 @@ push-requires g c κs =
 pub ghost-self : need.ghost-self
 ghost-self g c =
     let s = c .args .self .now in
-    (s .«start_places», (pushed-grown s (lawful g s) (c .args .windows .now) (c .pre .narrowed) (c .in-Some .job) _ _ (c .in-Some .ensures tt .chooses) (c .on .ensures) (c .push .ensures), tt))
+    (s .«start_places», (pushed-grown s (lawful g s) (c .args .windows .now) (c .pre .narrowed) (c .in-Some .job) _ _ (c .in-Some .ensures tt .chooses) (c .on .ensures) (c .push .ensures), ((λ e. absurd (open-not-impossible (c .pre .open) e)), tt)))
 
 pub note-starts-requires : need.note-starts-requires
 note-starts-requires g c κs =
