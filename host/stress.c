@@ -67,10 +67,10 @@ static void fail(const char *wrong, uint32_t answer)
     fputc('\n', stderr);
 }
 
-/* Tells the case in which memory was touched that is not there, and ends. */
+/* Tells the case in which a fence was touched or a slip was written, and ends. */
 static void on_trap(int signal_number)
 {
-    static const char text[] = "a byte outside of slip and buffer was touched in case ";
+    static const char text[] = "a byte out of bounds was touched, or the slip written, in case ";
     char digits[20];
     size_t at = sizeof digits;
     uint64_t left = tally.cases;

@@ -105,8 +105,7 @@ static const char *harm_to(const struct area *buffer, uint8_t fill, size_t writt
         return "bytes behind the buffer were written";
     }
     if (!is_filled(buffer, fill, buffer->before + written, end)) {
-        return written == 0 ? "the buffer was written, but the answer is not found"
-                            : "the buffer was written past the starts";
+        return "bytes of the buffer were written that hold no start";
     }
     return NULL;
 }
