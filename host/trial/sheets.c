@@ -64,18 +64,48 @@ void random_small_sheet(struct random *random, struct sheet *sheet)
     add_any_links(random, sheet, random_between(random, 0, 3), 3);
 }
 
+/* Gives a job a window that leaves out up to a third of the room on each side. */
+static void spread_window(struct random *random, struct job *job, uint32_t room)
+{
+    job->release = random_between(random, 0, room / 3);
+    job->due = room - random_between(random, 0, room / 3);
+    if (job->due < job->release + job->duration) {
+        job->due = job->release + job->duration;
+    }
+}
+
 void random_crowded_sheet(struct random *random, struct sheet *sheet)
 {
-    uint32_t jobs = random_between(random, 2, 6);
-    uint32_t room = 8 * jobs + random_between(random, 0, 20);
+    uint32_t jobs = random_between(random, 3, 6);
+    uint32_t room = random_between(random, 0, 4);
 
     clear(sheet);
     for (uint32_t i = 0; i < jobs; i++) {
-        uint32_t duration = random_between(random, 1, 12);
-        uint32_t release = random_between(random, 0, room / 2);
-        add_job(sheet, 0, duration, release, random_between(random, 0, room));
+        add_job(sheet, random_one_in(random, 6) ? 1 : 0, random_between(random, 1, 9), 0, 0);
+        room += sheet->jobs[i].duration;
     }
-    add_any_links(random, sheet, random_between(random, 0, 2), 10);
+    for (uint32_t i = 0; i < jobs; i++) {
+        spread_window(random, &sheet->jobs[i], room);
+    }
+    add_any_links(random, sheet, random_between(random, 0, 2), 4);
+}
+
+void random_flow_sheet(struct random *random, struct sheet *sheet)
+{
+    uint32_t work[2] = {0, 0};
+
+    clear(sheet);
+    for (uint32_t i = 0; i < 6; i++) {
+        add_job(sheet, i / 3, random_between(random, 1, 9), 0, 0);
+        work[i / 3] += sheet->jobs[i].duration;
+    }
+    uint32_t room = (work[0] > work[1] ? work[0] : work[1]) + random_between(random, 2, 8);
+    for (uint32_t i = 0; i < 6; i++) {
+        sheet->jobs[i].due = room + random_between(random, 0, 2);
+    }
+    for (uint32_t i = 0; i < 3; i++) {
+        add_link(sheet, i, i + 3, random_between(random, 0, 3));
+    }
 }
 
 /* A timetable that a sheet is made around. */

@@ -9,8 +9,11 @@
  * circle. */
 void random_small_sheet(struct random *random, struct sheet *sheet);
 
-/* Two to 6 jobs that crowd one station, with windows of some width. */
+/* Three to 6 jobs that fill one station but for a few minutes, mostly, with wide windows. */
 void random_crowded_sheet(struct random *random, struct sheet *sheet);
+
+/* Three timbers that each go from one station to another, in little time. */
+void random_flow_sheet(struct random *random, struct sheet *sheet);
 
 /* Up to so many jobs, at least one, and links, around a timetable that fits them. */
 void random_feasible_sheet(struct random *random, struct sheet *sheet, size_t jobs, size_t links);

@@ -50,6 +50,15 @@ static int make_crowded(struct random *random, struct text *slip)
     return 0;
 }
 
+static int make_flow(struct random *random, struct text *slip)
+{
+    struct sheet sheet;
+
+    random_flow_sheet(random, &sheet);
+    text_write_slip(slip, &sheet);
+    return 0;
+}
+
 static int make_large(struct random *random, struct text *slip)
 {
     struct sheet sheet;
@@ -133,9 +142,9 @@ static const struct {
     uint32_t share;
     slip_maker *make;
 } makers[] = {
-    {8, make_bytes},      {10, make_lines},     {20, make_small},   {10, make_crowded},
-    {2, make_large},      {6, make_feasible},   {2, make_overfull}, {12, make_spoiled},
-    {8, make_truncated},  {20, make_mutated},   {2, make_long},
+    {8, make_bytes},     {10, make_lines},    {14, make_small},    {10, make_crowded},
+    {10, make_flow},     {2, make_large},     {6, make_feasible},  {2, make_overfull},
+    {10, make_spoiled},  {6, make_truncated}, {20, make_mutated},  {2, make_long},
 };
 
 static int make_slip(struct random *random, struct text *slip)
