@@ -5,6 +5,8 @@ use mathlib.Core.Bool.{cond, _||_}
 use Prim.Native.Nat.{ℕ}
 use lib.Dec.{leb, ltb, eqb}
 use lib.ListN.{getD}
+use Rattle.std.specs.declared.option.Option.{Option}
+use Rattle.std.specs.declared.option.Option.the-variants.{Some, None}
 use Rattle.std.specs.declared.result.Result.{Result}
 use Rattle.std.specs.declared.result.Result.the-variants.{Ok, Err}
 use Rattle.sheet.specs.declared.refusal.Refusal.{Refusal}
@@ -31,6 +33,12 @@ found-start impossible k = Err NotFound
 -- the start of job k in a search of n jobs
 abbrev pub start-answer : ℕ → State → ℕ → Result ℕ Refusal
 start-answer n s k = cond (leb n k) (Err UnknownJob) (found-start s k)
+
+-- the timetable that a search has found
+abbrev pub timetable-of : State → Option (List ℕ)
+timetable-of (opened p) = None
+timetable-of (found p t) = Some t
+timetable-of impossible = None
 
 -- where a call is refused, what it was called on is as it was
 abbrev pub Untouched : {A X : Type 0} → Result A Refusal → X → X → Type 0

@@ -1,11 +1,13 @@
 // Looks in a row, and the starts that they found.
 ghost use mathlib.Core.Path.{_≡_};
 ghost use lib.ListN.{length};
+ghost use Rattle.std.specs.Options.{Cases};
+ghost use Rattle.std.specs.declared.option.Option.the-variants.{Some, None};
 ghost use Rattle.sheet.specs.Entering.{taken};
 ghost use Rattle.search.specs.Looks.{outcome-of, path-of, after-looks, looks-made};
 ghost use Rattle.search.specs.Promise.{Composes};
 ghost use Rattle.planner.specs.States.{entries-of, path-in, state-of, admits-in, cut-in, look-in};
-ghost use Rattle.planner.specs.Calls.{advance-answer, start-answer, Untouched};
+ghost use Rattle.planner.specs.Calls.{advance-answer, start-answer, timetable-of, Untouched};
 ghost use Rattle.planner.specs.Keeping.{Kept};
 use crate::state::Search;
 use rule::narrowing::Rule;
@@ -77,6 +79,17 @@ impl<P> Search<P> {
             Outcome::Open => Err(Refusal::NotFound),
             Outcome::Found => Ok(self.starts[number]),
             Outcome::Impossible => Err(Refusal::NotFound),
+        }
+    }
+
+    /// The timetable that was found: each job's start, by number.
+    pub fn timetable(&self) -> Option<&[u32]>
+        ensures { λ r. ⌜ Cases r (timetable-of (state-of (now (self .entry))) ≡ None) (λ t. timetable-of (state-of (now (self .entry))) ≡ Some (now t)) ⌝ }
+    {
+        match self.outcome {
+            Outcome::Open => None,
+            Outcome::Found => Some(&self.starts[0..self.sheet.jobs().len()]),
+            Outcome::Impossible => None,
         }
     }
 
