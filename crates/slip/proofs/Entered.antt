@@ -17,7 +17,7 @@ use Rattle.sheet.specs.Entries.{Entries, no-entries, with-job, with-link}
 use Rattle.sheet.specs.Sound.{Entered, Linked}
 use Rattle.sheet.specs.Entering.{enter-answer, link-answer}
 use Rattle.slip.specs.Adding.{then, add-job, add-link, add-all, Enterable}
-use Rattle.slip.proofs.Answers.{err-ok, then-ok, then-same, then-then, then-ok-itself, unless-refused-ok}
+use Rattle.slip.proofs.Results.{err-ok, then-ok, then-same, then-then, then-ok-itself, unless-refused-ok}
 
 -- a cause of refusal that does not apply
 passed : {A E : Type 0} (t : Bool) (e : E) (r : Result A E) (x : A) → cond t (Err e) r ≡ Ok x → (t ≡ false) × (r ≡ Ok x)

@@ -19,7 +19,7 @@ use Rattle.slip.specs.declared.line.Progress.{Progress}
 use Rattle.slip.specs.Splitting.{Parts, next}
 use Rattle.slip.specs.Adding.{then}
 use Rattle.slip.specs.Reading.{past-job, past-link, past-trailer, place-or, read-job, read-link, read-trailer, kind-of, read-kind, read-line, read-lines}
-use Rattle.slip.proofs.Answers.{ok-same, err-ok}
+use Rattle.slip.proofs.Results.{ok-same, err-ok}
 
 -- a line by its first byte and the others
 pub line-by-kind : (at : Progress) (b : Entries) (l : List ℕ) (linked : Bool) (k : Option Kind) → 0 < length l → linked ≡ isSome (at .linked) → k ≡ kind-of (getD l 0 0) linked (at .ended) → read-kind at b k (take (length l - 1) (drop 1 l)) ≡ read-line at b l

@@ -31,7 +31,7 @@ use Rattle.slip.specs.Adding.{then, add-job, add-link, add-all, Enterable}
 use Rattle.slip.specs.Reading.{start, past-job, past-link, past-trailer, place-or, true-figures, kind-of, read-kind, read-line, read-lines}
 use Rattle.slip.specs.Texts.{spaced, line-text, job-fields, link-fields, job-text, link-text, jobs-text, links-text, trailer-fields, text}
 use Rattle.slip.specs.Faulty.{lines-text, line-count, Five-digits, Ill-written, Has-bad-letter, Has-bad-fields, Is-untrue, Job-is-refused, Link-is-refused, Line-has, Runs-out, Line-at-fault, Bytes-left-over, Line-after-trailer, First-fault}
-use Rattle.slip.proofs.Answers.{ok-same, then-ok}
+use Rattle.slip.proofs.Results.{ok-same, then-ok}
 use Rattle.slip.proofs.Splits.{split-next, split-last}
 use Rattle.slip.proofs.Spelling.{fields-spaced, none-from-ill, split-line}
 use Rattle.slip.proofs.Entered.{add-job-ok, add-link-ok}
