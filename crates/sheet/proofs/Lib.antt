@@ -2,3 +2,4 @@
 pub mod Tables
 pub mod Linking
 pub mod Soundness
+pub mod Accepting

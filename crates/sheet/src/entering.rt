@@ -81,12 +81,12 @@ impl Sheet {
     }
 
     /// Another record for a job.
-    fn replace_job(&mut self, number: usize, job: Job)
-        requires there { ⌜ number < length (entries (now self) .jobs) ⌝ }
+    fn replace_job(&mut self, place: usize, job: Job)
+        requires there { ⌜ place < length (entries (now self) .jobs) ⌝ }
         requires entered { ⌜ Entered job ⌝ }
-        ensures { λ _. ⌜ entries (now (self .exit)) ≡ with-job-at (entries (now (self .entry))) number job ⌝ }
+        ensures { λ _. ⌜ entries (now (self .exit)) ≡ with-job-at (entries (now (self .entry))) place job ⌝ }
     {
-        self.jobs[number] = job;
+        self.jobs[place] = job;
     }
 
     /// Adds a job and answers its number.

@@ -17,7 +17,7 @@ use Rattle.sheet.proofs.table.Sheet.replace_job.Needs as need
 pub ghost-self : need.ghost-self
 ghost-self c =
     let s = c .args .self .now in
-    let h : c .args .number < s .«job_count» = omega (arith, job-count s, c .pre .there) in (
+    let h : c .args .place < s .«job_count» = omega (arith, job-count s, c .pre .there) in (
       omega arith,
       (
         omega arith,
@@ -26,7 +26,7 @@ ghost-self c =
           (
             search needs,
             (
-              throughout-written-over Entered (job-of 0 0 0 0) (s .jobs) (s .«job_count») (c .args .number) (c .args .job) h (s .entered) (c .pre .entered),
+              throughout-written-over Entered (job-of 0 0 0 0) (s .jobs) (s .«job_count») (c .args .place) (c .args .job) h (s .entered) (c .pre .entered),
               (s .linked, tt),
             ),
           ),
@@ -37,5 +37,5 @@ ghost-self c =
 pub returns : need.returns
 returns c =
     let s = c .args .self .now in
-    let h : c .args .number < s .«job_count» = omega (arith, job-count s, c .pre .there) in
-    ap (λ (js : List Job). record { jobs = js; links = entries s .links }) (take-set-lt (s .«job_count») (s .jobs) (c .args .number) (c .args .job) h)
+    let h : c .args .place < s .«job_count» = omega (arith, job-count s, c .pre .there) in
+    ap (λ (js : List Job). record { jobs = js; links = entries s .links }) (take-set-lt (s .«job_count») (s .jobs) (c .args .place) (c .args .job) h)

@@ -1,0 +1,5 @@
+-- What the contracts of calls cite.
+pub mod Stages
+pub mod Ledgers
+pub mod Promise
+pub mod Planners

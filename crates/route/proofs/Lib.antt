@@ -1,0 +1,3 @@
+-- Lemmas of Route.
+pub mod Tightest
+pub mod Links

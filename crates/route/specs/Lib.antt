@@ -1,0 +1,2 @@
+-- What the contracts of Route cite.
+pub mod Route

@@ -1,0 +1,6 @@
+-- What the contracts of rules cite.
+pub mod Windows
+pub mod Cuts
+pub mod Laws
+pub mod Bounds
+pub mod Rounds
