@@ -1,5 +1,5 @@
 -- Where the reader stands after good lines, before any trailer.
-use Prim.Native.Nat.{ℕ, _+_, _<_, _≤_}
+use Prim.Native.Nat.{ℕ, _+_}
 use mathlib.Core.Path.{_≡_, sym, ap, _∙_}
 use mathlib.Core.Logic.{_⊎_, inl, inr, ⊎-elim}
 use mathlib.Core.Bool.{false}
@@ -17,9 +17,9 @@ use Rattle.sheet.specs.declared.records.Link.{Link}
 use Rattle.sheet.specs.Entries.{Entries, with-job, with-link}
 use Rattle.sheet.specs.Sound.{Sound}
 use Rattle.slip.specs.declared.line.Progress.{Progress}
-use Rattle.slip.specs.Format.{line-end, letter-J}
+use Rattle.slip.specs.Format.{line-end}
 use Rattle.slip.specs.Reading.{past-job, past-link, place-or}
-use Rattle.slip.specs.Texts.{spaced, line-text, job-fields, job-text, link-text, jobs-text, links-text}
+use Rattle.slip.specs.Texts.{spaced, job-fields, job-text, link-text, jobs-text, links-text}
 use Rattle.slip.specs.Faulty.{lines-text, line-count}
 
 -- no link line was read, and the reader is where the job lines end
