@@ -33,7 +33,7 @@ number-with-space (b ∷ bs) ys =
     cond-both (ltb most-digits (length (b ∷ (bs ++ (space ∷ ys))))) None _ (λ v. v ≡ None) (λ _. refl)
     (λ _. cond-both (eqb b 48) _ (value-after 0 (b ∷ (bs ++ (space ∷ ys)))) (λ v. v ≡ None) (λ _. rw n) (λ _. value-with-space 0 (b ∷ bs) ys))
 
-pub in-front-of-none : (o : Option ℕ) → in-front o None ≡ None
+in-front-of-none : (o : Option ℕ) → in-front o None ≡ None
 in-front-of-none (Some n) = refl
 in-front-of-none None = refl
 

@@ -26,7 +26,7 @@ pub line-by-kind : (at : Progress) (b : Entries) (l : List ℕ) (linked : Bool) 
 line-by-kind at b [] linked k h e f = absurd (omega arith)
 line-by-kind at b (c ∷ fs) linked k h e f = rw (f, e, take-rest (c ∷ fs) 1)
 
-pub then-past : (r : Result Entries Fault) (p to : Progress) (c : Entries) → then {B = Progress × Entries} r (λ b. Ok (p, b)) ≡ Ok (to, c) → (p ≡ to) × (r ≡ Ok c)
+then-past : (r : Result Entries Fault) (p to : Progress) (c : Entries) → then {B = Progress × Entries} r (λ b. Ok (p, b)) ≡ Ok (to, c) → (p ≡ to) × (r ≡ Ok c)
 then-past (Ok b) p to c q = let e = ok-same {A = Progress × Entries} (p, b) (to, c) q in (ap (λ (s : Progress × Entries). s .0) e, ap (λ (s : Progress × Entries). Ok (s .1)) e)
 then-past (Err f) p to c q = err-ok f _ q
 
