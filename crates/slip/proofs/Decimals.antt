@@ -15,8 +15,8 @@ use Rattle.std.proofs.shelf.Decimals.{digits-decimal, value-decimal, length-dec
 use Rattle.std.specs.Written.{decimal}
 use Rattle.std.specs.declared.option.Option.the-variants.{Some, None}
 use Rattle.slip.specs.Splitting.{Without}
-use Rattle.slip.specs.Numbers.{is-digit, value-after, number}
-use Rattle.slip.proofs.Answers.{none-some, some-same}
+use Rattle.slip.specs.Numbers.{is-digit, value-after, most-digits, number}
+use Rattle.slip.proofs.Results.{none-some, some-same}
 
 abbrev all-digits : List ℕ → Bool
 all-digits [] = true
@@ -42,10 +42,10 @@ only-digits n ds q =
     cond-both (all-digits ds) (Some (value 0 ds)) None (λ v. v ≡ Some n → (all-digits ds ≡ true) × (value 0 ds ≡ n))
     (λ e r. (e, some-same _ _ r)) (λ e r. none-some n r) (sym (value-after-is 0 ds) ∙ q)
 
-number-of-digits : (ds : List ℕ) → all-digits ds ≡ true → 0 < length ds → length ds ≤ 5 → (getD ds 0 0 ≡ 48 → length ds ≡ 1) → number ds ≡ Some (value 0 ds)
+number-of-digits : (ds : List ℕ) → all-digits ds ≡ true → 0 < length ds → length ds ≤ most-digits → (getD ds 0 0 ≡ 48 → length ds ≡ 1) → number ds ≡ Some (value 0 ds)
 number-of-digits [] d h l z = absurd (omega arith)
 number-of-digits (b ∷ bs) d h l z =
-    let e : ltb 4 (length bs) ≡ false = le-ltb 4 (length bs) (omega arith) in
+    let e : ltb most-digits (length (b ∷ bs)) ≡ false = le-ltb most-digits (length (b ∷ bs)) l in
     let v : value-after 0 (b ∷ bs) ≡ Some (value 0 (b ∷ bs)) = value-after-is 0 (b ∷ bs) ∙ ap (λ (t : Bool). cond t (Some (value 0 (b ∷ bs))) None) d in
     rw e
     (⊎-elim
@@ -71,8 +71,8 @@ Decimal-of f n = (f ≡ decimal n) × (n < 100000)
 pub decimal-from-number : (f : List ℕ) (n : ℕ) → number f ≡ Some n → Decimal-of f n
 decimal-from-number [] n = λ q. none-some n q
 decimal-from-number (b ∷ bs) n =
-    cond-both (ltb 4 (length bs)) None _ (λ v. v ≡ Some n → Decimal-of (b ∷ bs) n) (λ _ q. none-some n q)
-    (λ l. let h : length bs ≤ 4 = ltb-false 4 (length bs) l in
+    cond-both (ltb most-digits (length (b ∷ bs))) None _ (λ v. v ≡ Some n → Decimal-of (b ∷ bs) n) (λ _ q. none-some n q)
+    (λ l. let h : length (b ∷ bs) ≤ most-digits = ltb-false most-digits (length (b ∷ bs)) l in
     cond-both (eqb b 48) _ _ (λ v. v ≡ Some n → Decimal-of (b ∷ bs) n)
     (λ z. cond-both (eqb (length bs) 0) (Some 0) None (λ v. v ≡ Some n → Decimal-of (b ∷ bs) n)
     (λ o q. let e : bs ≡ [] = nil-from-length bs (eqb-true (length bs) 0 o) in

@@ -1,5 +1,5 @@
 -- The fields of a line, as they are read one by one.
-use Prim.Native.Nat.{ℕ, suc, _+_, _-_, _*_, _<_, _≤_}
+use Prim.Native.Nat.{ℕ, _+_, _-_, _*_, _<_}
 use mathlib.Core.Path.{_≡_, refl, sym, ap, _∙_}
 use mathlib.Core.Bool.{true, false}
 use mathlib.Core.List.{List, [], _∷_, _++_}
@@ -12,7 +12,7 @@ use Rattle.std.specs.declared.option.Option.{Option}
 use Rattle.std.specs.declared.option.Option.the-variants.{Some, None}
 use Rattle.slip.specs.Format.{space}
 use Rattle.slip.specs.Splitting.{Parts, last, next, split}
-use Rattle.slip.specs.Numbers.{is-digit, value-after, number}
+use Rattle.slip.specs.Numbers.{is-digit, value-after, most-digits, number}
 use Rattle.slip.specs.Fields.{in-front, numbers, fields}
 use Rattle.slip.proofs.Splits.{rejoined, rejoined-split}
 
@@ -27,13 +27,13 @@ value-with-space n [] ys = refl
 value-with-space n (b ∷ bs) ys = cond-both (is-digit b) (value-after (n * 10 + (b - 48)) (bs ++ (space ∷ ys))) None (λ v. v ≡ None) (λ _. value-with-space (n * 10 + (b - 48)) bs ys) (λ _. refl)
 
 number-with-space : (f ys : List ℕ) → number (f ++ (space ∷ ys)) ≡ None
-number-with-space [] ys = cond-both (ltb 4 (length ys)) None None (λ v. v ≡ None) (λ _. refl) (λ _. refl)
+number-with-space [] ys = cond-both (ltb most-digits (length (space ∷ ys))) None None (λ v. v ≡ None) (λ _. refl) (λ _. refl)
 number-with-space (b ∷ bs) ys =
     let n : eqb (length (bs ++ (space ∷ ys))) 0 ≡ false = ne-eqb _ _ (λ e. let q = length-append bs (space ∷ ys) in omega arith) in
-    cond-both (ltb 4 (length (bs ++ (space ∷ ys)))) None _ (λ v. v ≡ None) (λ _. refl)
+    cond-both (ltb most-digits (length (b ∷ (bs ++ (space ∷ ys))))) None _ (λ v. v ≡ None) (λ _. refl)
     (λ _. cond-both (eqb b 48) _ (value-after 0 (b ∷ (bs ++ (space ∷ ys)))) (λ v. v ≡ None) (λ _. rw n) (λ _. value-with-space 0 (b ∷ bs) ys))
 
-pub in-front-of-none : (o : Option ℕ) → in-front o None ≡ None
+in-front-of-none : (o : Option ℕ) → in-front o None ≡ None
 in-front-of-none (Some n) = refl
 in-front-of-none None = refl
 

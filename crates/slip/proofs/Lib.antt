@@ -1,5 +1,5 @@
 -- Lemmas of the slip reader.
-pub mod Answers
+pub mod Results
 pub mod Digits
 pub mod Splits
 pub mod Fields

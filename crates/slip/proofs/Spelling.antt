@@ -16,7 +16,7 @@ use Rattle.slip.specs.Numbers.{number}
 use Rattle.slip.specs.Fields.{in-front, numbers, fields}
 use Rattle.slip.specs.Texts.{spaced, line-text}
 use Rattle.slip.specs.Faulty.{Five-digits, Ill-written}
-use Rattle.slip.proofs.Answers.{none-some, some-same}
+use Rattle.slip.proofs.Results.{none-some, some-same}
 use Rattle.slip.proofs.Splits.{split-next, split-last, rejoined, rejoined-split, without-append}
 use Rattle.slip.proofs.Decimals.{number-of-decimal, decimal-from-number, decimal-without}
 

@@ -15,7 +15,10 @@ abbrev pub value-after : ℕ → List ℕ → Option ℕ
 value-after n [] = Some n
 value-after n (b ∷ bs) = cond (is-digit b) (value-after (n * 10 + (b - 48)) bs) None
 
--- 1 to 5 digits, and no leading zero but in 0 itself
+abbrev pub most-digits : ℕ
+most-digits = 5
+
+-- at least one digit and not too many, and no leading zero but in 0 itself
 abbrev pub number : List ℕ → Option ℕ
 number [] = None
-number (b ∷ bs) = cond (ltb 4 (length bs)) None (cond (eqb b 48) (cond (eqb (length bs) 0) (Some 0) None) (value-after 0 (b ∷ bs)))
+number (b ∷ bs) = cond (ltb most-digits (length (b ∷ bs))) None (cond (eqb b 48) (cond (eqb (length bs) 0) (Some 0) None) (value-after 0 (b ∷ bs)))

@@ -2,14 +2,14 @@
 ghost use mathlib.Core.Path.{_≡_};
 ghost use Prim.Native.Nat.{_≤_};
 ghost use lib.ListN.{length};
-ghost use Rattle.slip.specs.Numbers.{number, value-after};
+ghost use Rattle.slip.specs.Numbers.{most-digits, number, value-after};
 
 /// How many digits a number has at most.
 const MAX_DIGITS: usize = 5;
 
 /// The value of digits alone.
 fn digits_value(field: &[u8]) -> Option<u32>
-    requires { ⌜ length (now field) ≤ 5 ⌝ }
+    requires { ⌜ length (now field) ≤ most-digits ⌝ }
     ensures { λ r. ⌜ r ≡ value-after 0 (now (field .entry)) ⌝ }
 {
     let mut value = 0;

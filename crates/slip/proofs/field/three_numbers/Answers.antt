@@ -1,5 +1,5 @@
 -- Two numbers with a space after each, and the last.
-use mathlib.Core.Path.{_≡_, sym, _∙_, ap}
+use mathlib.Core.Path.{sym, _∙_, ap}
 use Rattle.std.specs.declared.option.Option.the-variants.{Some}
 use Rattle.slip.specs.Fields.{in-front}
 use Rattle.slip.proofs.field.three_numbers.Needs as need
