@@ -2,5 +2,6 @@
 pub mod advancing;
 pub mod closing;
 pub mod draft;
+pub mod from_slip;
 pub mod looking;
 pub mod state;
