@@ -89,11 +89,12 @@ module _ (admits : Entries → List ℕ → Type 0) (cut : Entries → List Wind
         let y = after-looks f n x in
         let granted : y ≡ after-looks f (l .granted + n) (opened []) = ap (after-looks f n) (g .granted-looks) ∙ sym (after-add f (l .granted) n (opened [])) in
         let reported : l .reported + looks-made f n x ≡ looks-made f (l .granted + n) (opened []) =
-          ap (λ (m : ℕ). m + looks-made f n x) (g .reported-looks)
-          ∙ ap (λ (z : State). looks-made f (l .granted) (opened []) + looks-made f n z) (g .granted-looks)
-          ∙ sym (made-add f (l .granted) n (opened [])) in
-        ((refl, record { unchanged = g .unchanged; sound = g .sound; granted-looks = granted; reported-looks = reported }),
-         advance-owes admits cut lawful (with-advance l n (Advanced (outcome-number (outcome-of y)) (looks-made f n x))) (g .sound) y granted reported)
+        ap (λ (m : ℕ). m + looks-made f n x) (g .reported-looks)
+        ∙ ap (λ (z : State). looks-made f (l .granted) (opened []) + looks-made f n z) (g .granted-looks)
+        ∙ sym (made-add f (l .granted) n (opened [])) in (
+          (refl, record { unchanged = g .unchanged; sound = g .sound; granted-looks = granted; reported-looks = reported }),
+          advance-owes admits cut lawful (with-advance l n (Advanced (outcome-number (outcome-of y)) (looks-made f n x))) (g .sound) y granted reported,
+        )
 
     -- a start, where b tells whether the job is not on the sheet
     started : (k : ℕ) (b : Bool) (y : State) → x ≡ y → Start-answered admits cut l k (numbered own (cond b (Err UnknownJob) (found-start y k)))
