@@ -1,10 +1,9 @@
 -- What a sheet has taken, by its answers.
 use Prim.Native.Nat.{ℕ, _+_, _<_, _≤_}
 use mathlib.Core.Path.{_≡_, refl, sym, ap, subst, _∙_}
-use mathlib.Core.Bool.{Bool, true, false, cond, _||_}
+use mathlib.Core.Bool.{Bool, true, false, cond}
 use mathlib.Core.List.{List, [], _∷_, _++_}
 use native.Mathlib.Omega.{arith}
-use lib.Dec.{eqb, ltb, leb}
 use lib.ListN.{length}
 use Rattle.std.proofs.shelf.Tests.{leb-false, ltb-false, eqb-false, or-parts}
 use Rattle.std.specs.declared.result.Result.{Result}

@@ -12,27 +12,24 @@ use Rattle.std.proofs.shelf.Lists.{append-nil, append-assoc, length-append, nil
 use Rattle.std.specs.Options.{isSome}
 use Rattle.std.specs.shelf.Lists.{joined}
 use Rattle.std.specs.declared.option.Option.{Option}
-use Rattle.std.specs.declared.option.Option.the-variants.{Some, None}
 use Rattle.std.specs.declared.result.Result.{Result}
 use Rattle.std.specs.declared.result.Result.the-variants.{Ok, Err}
-use Rattle.sheet.specs.declared.records.Job.{Job}
-use Rattle.sheet.specs.declared.records.Link.{Link}
 use Rattle.sheet.specs.declared.refusal.Refusal.{Refusal}
-use Rattle.sheet.specs.Entries.{Entries, no-entries, with-job, with-link}
-use Rattle.sheet.specs.Entering.{enter-answer, link-answer}
+use Rattle.sheet.specs.Entries.{Entries, no-entries}
 use Rattle.slip.specs.declared.fault.Fault.{Fault}
 use Rattle.slip.specs.declared.fault.Fault.the-variants.{TooLong, Unfinished, BadLetter, BadFields, UntrueTrailer, Refused}
 use Rattle.slip.specs.declared.kind.Kind.{Kind}
 use Rattle.slip.specs.declared.line.Progress.{Progress}
-use Rattle.slip.specs.Format.{longest-slip, line-end, letter-J, letter-L, letter-E}
-use Rattle.slip.specs.Splitting.{split, Without}
-use Rattle.slip.specs.Fields.{fields}
+use Rattle.text.specs.Bytes.{line-end}
+use Rattle.slip.specs.Format.{longest-slip, letter-J, letter-L, letter-E}
+use Rattle.text.specs.Splitting.{split, Without}
 use Rattle.slip.specs.Adding.{then, add-job, add-link, add-all, Enterable}
-use Rattle.slip.specs.Reading.{start, past-job, past-link, past-trailer, place-or, true-figures, kind-of, read-kind, read-line, read-lines}
-use Rattle.slip.specs.Texts.{spaced, line-text, job-fields, link-fields, job-text, link-text, jobs-text, links-text, trailer-fields, text}
+use Rattle.slip.specs.Reading.{start, past-job, past-link, past-trailer, kind-of, read-kind, read-line, read-lines}
+use Rattle.text.specs.Spaced.{spaced}
+use Rattle.slip.specs.Texts.{line-text, job-fields, link-fields, jobs-text, links-text, trailer-fields, text}
 use Rattle.slip.specs.Faulty.{lines-text, line-count, Five-digits, Ill-written, Has-bad-letter, Has-bad-fields, Is-untrue, Job-is-refused, Link-is-refused, Line-has, Runs-out, Line-at-fault, Bytes-left-over, Line-after-trailer, First-fault}
 use Rattle.slip.proofs.Answers.{ok-same, then-ok}
-use Rattle.slip.proofs.Splits.{split-next, split-last}
+use Rattle.text.proofs.Splits.{split-next, split-last}
 use Rattle.slip.proofs.Spelling.{fields-spaced, none-from-ill, split-line}
 use Rattle.slip.proofs.Entered.{add-job-ok, add-link-ok}
 use Rattle.slip.proofs.Standing.{Stands, jobs-end, unlinked-by-mark, unlinked-by-links, stands-job, stands-link}

@@ -5,12 +5,6 @@ use Prim.Native.Nat.{ℕ}
 abbrev pub longest-slip : ℕ
 longest-slip = 4096
 
-abbrev pub line-end : ℕ
-line-end = 10
-
-abbrev pub space : ℕ
-space = 32
-
 abbrev pub letter-J : ℕ
 letter-J = 74
 
