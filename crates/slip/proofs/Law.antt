@@ -20,7 +20,7 @@ use Rattle.slip.specs.Reading.{start, read-lines, read, left-entries}
 use Rattle.slip.specs.Texts.{Slip-of}
 use Rattle.slip.specs.Faulty.{First-fault, Faulty}
 use Rattle.slip.specs.Laws.{Reader-law}
-use Rattle.slip.proofs.Answers.{err-ok, err-same}
+use Rattle.slip.proofs.Results.{err-ok, err-same}
 use Rattle.slip.proofs.Walk.{Comes-to, read-lines-comes-to}
 use Rattle.slip.proofs.Telling.{read-text, tell-first-fault}
 

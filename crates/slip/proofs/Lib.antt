@@ -1,5 +1,5 @@
 -- Lemmas of the slip reader.
-pub mod Answers
+pub mod Results
 pub mod Steps
 pub mod Spelling
 pub mod Entered

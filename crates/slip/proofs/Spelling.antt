@@ -19,22 +19,23 @@ use Rattle.text.proofs.Splits.{split-next, rejoined-split}
 use Rattle.text.proofs.Decimals.{Reads, number-reads, number-fits}
 use Rattle.text.proofs.Spacing.{numbers-same}
 use Rattle.text.proofs.Spelling.{numbers-spaced, spells-numbers, spaced-without}
+use Rattle.slip.specs.Format.{most-digits}
 use Rattle.slip.specs.Fields.{fields}
 use Rattle.slip.specs.Texts.{line-text}
 use Rattle.slip.specs.Faulty.{Five-digits, Ill-written}
 
-reads-five-digits : Reads (number 5) 100000
-reads-five-digits = number-reads 5 (omega arith) (omega arith)
+reads-five-digits : Reads (number most-digits) 100000
+reads-five-digits = number-reads most-digits (omega arith) (omega arith)
 
-pub space-first : (l : List ℕ) → 0 < length l → getD l 0 0 ≡ space → (n : ℕ) → fields n l ≡ numbers (number-32 5) n (split space (take (length l - 1) (drop 1 l)))
+pub space-first : (l : List ℕ) → 0 < length l → getD l 0 0 ≡ space → (n : ℕ) → fields n l ≡ numbers (number-32 most-digits) n (split space (take (length l - 1) (drop 1 l)))
 space-first [] h e n = absurd (omega arith)
 space-first (b ∷ bs) h e n =
     let t : eqb b space ≡ true = eq-eqb b space e in
-    rw (take-rest (b ∷ bs) 1, t) (sym (numbers-same (number-32 5) (number 5) (number-fits 5 (omega arith)) n (split space bs)))
+    rw (take-rest (b ∷ bs) 1, t) (sym (numbers-same (number-32 most-digits) (number most-digits) (number-fits most-digits (omega arith)) n (split space bs)))
 
 pub fields-spaced : (k : ℕ) (ns : List ℕ) → length ns ≡ k → 0 < k → Five-digits ns → fields k (spaced ns) ≡ Some ns
 fields-spaced k [] e h s = absurd (omega arith)
-fields-spaced k (n ∷ ns) e h s = subst (λ (m : ℕ). fields m (spaced (n ∷ ns)) ≡ Some (n ∷ ns)) e (numbers-spaced 100000 (number 5) reads-five-digits n ns s)
+fields-spaced k (n ∷ ns) e h s = subst (λ (m : ℕ). fields m (spaced (n ∷ ns)) ≡ Some (n ∷ ns)) e (numbers-spaced 100000 (number most-digits) reads-five-digits n ns s)
 
 -- the bytes spell these k numbers
 abbrev pub Spells : ℕ → List ℕ → List ℕ → Type 0
@@ -43,9 +44,9 @@ Spells k fs ns = (fs ≡ spaced ns) × (length ns ≡ k) × Five-digits ns
 pub spells-fields : (k : ℕ) (fs ns : List ℕ) → fields k fs ≡ Some ns → Spells k fs ns
 spells-fields k [] ns = λ q. none-some ns q
 spells-fields k (b ∷ bs) ns =
-    cond-both (eqb b space) (numbers (number 5) k (split space bs)) None (λ v. v ≡ Some ns → Spells k (b ∷ bs) ns)
+    cond-both (eqb b space) (numbers (number most-digits) k (split space bs)) None (λ v. v ≡ Some ns → Spells k (b ∷ bs) ns)
     (λ e q. let c : b ≡ space = eqb-true b space e in
-    let i = spells-numbers 100000 (number 5) reads-five-digits k (split space bs) ns q in
+    let i = spells-numbers 100000 (number most-digits) reads-five-digits k (split space bs) ns q in
     (rw c (ap (λ (x : List ℕ). space ∷ x) (sym (rejoined-split space bs)) ∙ i .0), i .1, i .2))
     (λ _ q. none-some ns q)
 

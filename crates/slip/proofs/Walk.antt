@@ -29,9 +29,10 @@ use Rattle.slip.specs.Reading.{job-from, link-from, place-or, start, past-job,
 use Rattle.text.specs.Spaced.{spaced}
 use Rattle.slip.specs.Texts.{line-text, job-fields, link-fields, jobs-text, links-text, trailer-fields, text}
 use Rattle.slip.specs.Faulty.{lines-text, line-count, Five-digits, Line-has, First-fault}
+use Rattle.sheet.proofs.Accepting.{none-sound, enter-sound, link-sound}
 use Rattle.text.proofs.Splits.{rejoined, rejoined-split, All-without, split-without}
 use Rattle.text.proofs.Spacing.{three-places, four-places}
-use Rattle.slip.proofs.Entered.{enter-ok, link-ok, enterable-job, enterable-link}
+use Rattle.slip.proofs.Entered.{enterable-job, enterable-link}
 use Rattle.slip.proofs.Standing.{Unlinked, Stands, jobs-end, unlinked-by-mark, unlinked-by-links, stands-job, stands-link, lines-text-job, lines-text-link}
 use Rattle.slip.proofs.Cases.{kind-cases, fields-cases, figures-true, figures-are}
 
@@ -85,7 +86,7 @@ module _ (bytes : List ℕ) (ps : Parts) (at : Progress) (b : Entries) (i : Stan
       let q : ns ≡ job-fields j = four-places ns (s .1) in
       let h : fs ≡ spaced (job-fields j) = s .0 ∙ ap spaced q in
       elim (enter-answer b j) as (λ v. enter-answer b j ≡ v → Goes-on (past-job at (length fs)) (or-refused (at .line) (unless-refused v (with-job b j)))) [
-        | Ok k ↦ λ a. go (past-job at (length fs)) (with-job b j) (stands-job at b j fs i u (enter-ok b j k a .0) h)
+        | Ok k ↦ λ a. go (past-job at (length fs)) (with-job b j) (stands-job at b j fs i u (enter-sound b j k (i .sound) a) h)
             (enterable-job b j (with-job b j) (u .1) t (ap (λ (r : Result ℕ _). unless-refused r (with-job b j)) a))
             (one-line-on bytes (lines-text b) fs (job-fields j) (rejoined line-end ps) (lines-text (with-job b j)) x letter-J (e .0) f h (lines-text-job b j (u .1)))
         | Err d ↦ λ a. fault x _ e (i .line-is, inl (j, rw (f, h), subst Five-digits q (s .2), u .1, a))
@@ -100,7 +101,7 @@ module _ (bytes : List ℕ) (ps : Parts) (at : Progress) (b : Entries) (i : Stan
       let q : ns ≡ link-fields l = three-places ns (s .1) in
       let h : fs ≡ spaced (link-fields l) = s .0 ∙ ap spaced q in
       elim (link-answer b l) as (λ v. link-answer b l ≡ v → Goes-on (past-link at (length fs)) (or-refused (at .line) (unless-refused v (with-link b l)))) [
-        | Ok k ↦ λ a. go (past-link at (length fs)) (with-link b l) (stands-link at b l (length fs) i (link-ok b l k a .0))
+        | Ok k ↦ λ a. go (past-link at (length fs)) (with-link b l) (stands-link at b l (length fs) i (link-sound b l (i .sound) a))
             (enterable-link b l (with-link b l) t (ap (λ (r : Result (Unit {0}) _). unless-refused r (with-link b l)) a))
             (one-line-on bytes (lines-text b) fs (link-fields l) (rejoined line-end ps) (lines-text (with-link b l)) x letter-L (e .0) f h (lines-text-link b l))
         | Err d ↦ λ a. fault x _ e (i .line-is, inr (l, rw (f, h), subst Five-digits q (s .2), a))
@@ -132,7 +133,7 @@ walk (next (x ∷ fs) ps) bytes w at b i t e =
 
 -- the reader starts after no lines
 pub stands-at-start : Stands start no-entries
-stands-at-start = record { line-is = refl; not-ended = refl; first-link = inl (refl, refl, refl); few-jobs = omega arith; few-links = omega arith }
+stands-at-start = record { line-is = refl; not-ended = refl; first-link = inl (refl, refl, refl); sound = none-sound }
 
 pub read-lines-comes-to : (bytes : List ℕ) → Comes-to bytes (read-lines start no-entries (split line-end bytes))
 read-lines-comes-to bytes = walk (split line-end bytes) bytes (split-without line-end bytes) start no-entries stands-at-start refl (sym (rejoined-split line-end bytes))

@@ -9,8 +9,9 @@ use Rattle.text.specs.Bytes.{space}
 use Rattle.text.specs.Splitting.{split}
 use Rattle.text.specs.Numbers.{number}
 use Rattle.text.specs.Spaced.{numbers}
+use Rattle.slip.specs.Format.{most-digits}
 
--- a space, and n numbers of 1 to 5 digits parted by one space
+-- a space, and n numbers parted by one space
 abbrev pub fields : ℕ → List ℕ → Option (List ℕ)
 fields n [] = None
-fields n (b ∷ bs) = cond (eqb b space) (numbers (number 5) n (split space bs)) None
+fields n (b ∷ bs) = cond (eqb b space) (numbers (number most-digits) n (split space bs)) None

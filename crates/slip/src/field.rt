@@ -7,6 +7,7 @@ ghost use Rattle.text.specs.Bytes.{space};
 ghost use Rattle.text.specs.Splitting.{split};
 ghost use Rattle.text.specs.Numbers.{number-32};
 ghost use Rattle.text.specs.Spaced.{numbers};
+ghost use Rattle.slip.specs.Format.{most-digits};
 ghost use Rattle.slip.specs.Fields.{fields};
 use text::spaced::four_numbers;
 use text::spaced::three_numbers;
@@ -16,7 +17,7 @@ const MAX_DIGITS: usize = 5;
 
 /// What stands after the space that follows a line's letter.
 fn after_space(text: &[u8]) -> Option<&[u8]>
-    ensures { λ r. ⌜ Cases r ((n : ℕ) → fields n (now (text .entry)) ≡ None) (λ x. (n : ℕ) → fields n (now (text .entry)) ≡ numbers (number-32 5) n (split space (now x))) ⌝ }
+    ensures { λ r. ⌜ Cases r ((n : ℕ) → fields n (now (text .entry)) ≡ None) (λ x. (n : ℕ) → fields n (now (text .entry)) ≡ numbers (number-32 most-digits) n (split space (now x))) ⌝ }
 {
     if text.len() == 0 || text[0] != b' ' {
         return None;

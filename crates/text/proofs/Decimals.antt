@@ -8,7 +8,7 @@ use native.Mathlib.Omega.{arith}
 use borrow.Author.Needs.{needs}
 use lib.Dec.{eqb, ltb, leb}
 use lib.ListN.{length, getD}
-use Rattle.std.proofs.shelf.Tests.{ne-eqb, eqb-true, eqb-false, lt-ltb, ltb-true, leb-false, lt-leb, cond-both, and-parts, leb-true, cases-eq}
+use Rattle.std.proofs.shelf.Tests.{ne-eqb, eqb-true, eqb-false, lt-ltb, le-ltb, ltb-true, ltb-false, cond-both, and-parts, leb-true, cases-eq}
 use Rattle.std.proofs.shelf.Lists.{nil-from-length}
 use Rattle.std.proofs.shelf.Numerals.{Numerals, numerals-by-fold, value-short}
 use Rattle.std.proofs.shelf.Decimals.{digits-decimal, value-decimal, length-decimal-le, decimal-some, first-decimal, decimal-digit, decimal-value}
@@ -46,7 +46,7 @@ only-digits n ds q =
 number-of-digits : (k : ℕ) (ds : List ℕ) → all-digits ds ≡ true → 0 < length ds → length ds ≤ k → (getD ds 0 0 ≡ 48 → length ds ≡ 1) → number k ds ≡ Some (value 0 ds)
 number-of-digits k [] d h l z = absurd (omega arith)
 number-of-digits k (b ∷ bs) d h l z =
-    let e : leb k (length bs) ≡ false = lt-leb _ _ (omega arith) in
+    let e : ltb k (length (b ∷ bs)) ≡ false = le-ltb k (length (b ∷ bs)) l in
     let v : value-after 0 (b ∷ bs) ≡ Some (value 0 (b ∷ bs)) = value-after-is 0 (b ∷ bs) ∙ ap (λ (t : Bool). cond t (Some (value 0 (b ∷ bs))) None) d in
     rw e
     (⊎-elim
@@ -72,8 +72,8 @@ Decimal-below m f n = (f ≡ decimal n) × (n < m)
 decimal-from-number : (k : ℕ) (f : List ℕ) (n : ℕ) → 10 ^ k ≤ 2 ^ 64 → number k f ≡ Some n → Decimal-below (10 ^ k) f n
 decimal-from-number k [] n s = λ q. none-some n q
 decimal-from-number k (b ∷ bs) n s =
-    cond-both (leb k (length bs)) None _ (λ v. v ≡ Some n → Decimal-below (10 ^ k) (b ∷ bs) n) (λ _ q. none-some n q)
-    (λ l. let h : length bs < k = leb-false k (length bs) l in
+    cond-both (ltb k (length (b ∷ bs))) None _ (λ v. v ≡ Some n → Decimal-below (10 ^ k) (b ∷ bs) n) (λ _ q. none-some n q)
+    (λ l. let h : length (b ∷ bs) ≤ k = ltb-false k (length (b ∷ bs)) l in
     cond-both (eqb b 48) _ _ (λ v. v ≡ Some n → Decimal-below (10 ^ k) (b ∷ bs) n)
     (λ z. cond-both (eqb (length bs) 0) (Some 0) None (λ v. v ≡ Some n → Decimal-below (10 ^ k) (b ∷ bs) n)
     (λ o q. let e : bs ≡ [] = nil-from-length bs (eqb-true (length bs) 0 o) in

@@ -4,7 +4,7 @@ use mathlib.Core.Path.{_≡_, refl, sym, ap, _∙_}
 use mathlib.Core.Bool.{false}
 use mathlib.Core.List.{List, [], _∷_, _++_}
 use native.Mathlib.Omega.{arith}
-use lib.Dec.{eqb, leb}
+use lib.Dec.{eqb, ltb}
 use lib.ListN.{length, getD, length-append}
 use Rattle.std.proofs.shelf.Tests.{ne-eqb, cond-both}
 use Rattle.std.specs.declared.option.Option.{Option}
@@ -20,10 +20,10 @@ value-with-space n [] ys = refl
 value-with-space n (b ∷ bs) ys = cond-both (is-digit b) (value-after (n * 10 + (b - 48)) (bs ++ (space ∷ ys))) None (λ v. v ≡ None) (λ _. value-with-space (n * 10 + (b - 48)) bs ys) (λ _. refl)
 
 number-with-space : (k : ℕ) (f ys : List ℕ) → number k (f ++ (space ∷ ys)) ≡ None
-number-with-space k [] ys = cond-both (leb k (length ys)) None None (λ v. v ≡ None) (λ _. refl) (λ _. refl)
+number-with-space k [] ys = cond-both (ltb k (length (space ∷ ys))) None None (λ v. v ≡ None) (λ _. refl) (λ _. refl)
 number-with-space k (b ∷ bs) ys =
     let n : eqb (length (bs ++ (space ∷ ys))) 0 ≡ false = ne-eqb _ _ (λ e. let q = length-append bs (space ∷ ys) in omega arith) in
-    cond-both (leb k (length (bs ++ (space ∷ ys)))) None _ (λ v. v ≡ None) (λ _. refl)
+    cond-both (ltb k (length (b ∷ (bs ++ (space ∷ ys))))) None _ (λ v. v ≡ None) (λ _. refl)
     (λ _. cond-both (eqb b 48) _ (value-after 0 (b ∷ (bs ++ (space ∷ ys)))) (λ v. v ≡ None) (λ _. rw n) (λ _. value-with-space 0 (b ∷ bs) ys))
 
 in-front-of-none : (o : Option ℕ) → in-front o None ≡ None

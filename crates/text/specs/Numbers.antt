@@ -18,7 +18,7 @@ value-after n (b ∷ bs) = cond (is-digit b) (value-after (n * 10 + (b - 48)) bs
 -- 1 to k digits, and no leading zero but in 0 itself
 abbrev pub number : ℕ → List ℕ → Option ℕ
 number k [] = None
-number k (b ∷ bs) = cond (leb k (length bs)) None (cond (eqb b 48) (cond (eqb (length bs) 0) (Some 0) None) (value-after 0 (b ∷ bs)))
+number k (b ∷ bs) = cond (ltb k (length (b ∷ bs))) None (cond (eqb b 48) (cond (eqb (length bs) 0) (Some 0) None) (value-after 0 (b ∷ bs)))
 
 abbrev pub in-32-bits : Option ℕ → Option ℕ
 in-32-bits (Some n) = cond (ltb n (2 ^ 32)) (Some n) None

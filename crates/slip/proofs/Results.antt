@@ -1,4 +1,4 @@
--- Answers told apart and taken apart: Ok and Err, and one answer after another.
+-- Results told apart and taken apart, and one result after another.
 use Prim.Native.Nat.{ℕ}
 use mathlib.Core.Path.{_≡_, refl}
 use native.Mathlib.Omega.{arith}
