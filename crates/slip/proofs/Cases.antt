@@ -23,7 +23,7 @@ use Rattle.slip.specs.Adding.{then}
 use Rattle.slip.specs.Reading.{or-bad-fields, true-figures, kind-of}
 use Rattle.slip.specs.Texts.{jobs-text, trailer-fields}
 use Rattle.slip.specs.Faulty.{Ill-written}
-use Rattle.slip.proofs.Fields.{three-numbers}
+use Rattle.text.proofs.Spacing.{three-places}
 use Rattle.slip.proofs.Spelling.{Spells, spells-fields, ill-from-none}
 
 -- a letter that begins no line
@@ -64,7 +64,7 @@ pub figures-are : (b : Entries) (ns : List ℕ) → length ns ≡ 3 → true-fig
 figures-are b ns l t =
     let x = and-parts (eqb (getD ns 0 0) (length (b .jobs))) _ t in
     let y = and-parts (eqb (getD ns 1 0) (length (b .links))) (eqb (getD ns 2 0) (length (jobs-text b))) (x .1) in
-    three-numbers ns l ∙ three-same _ _ _ _ _ _ (eqb-true _ _ (x .0)) (eqb-true _ _ (y .0)) (eqb-true _ _ (y .1))
+    three-places ns l ∙ three-same _ _ _ _ _ _ (eqb-true _ _ (x .0)) (eqb-true _ _ (y .0)) (eqb-true _ _ (y .1))
 
 pub figures-false : (b : Entries) (ns : List ℕ) → length ns ≡ 3 → (ns ≡ trailer-fields b → ⊥) → true-figures b (length (jobs-text b)) ns ≡ false
 figures-false b ns l h =

@@ -12,8 +12,9 @@ use Rattle.std.specs.declared.result.Result.the-variants.{Ok, Err}
 use Rattle.sheet.specs.Entries.{Entries, no-entries}
 use Rattle.slip.specs.declared.fault.Fault.{Fault}
 use Rattle.slip.specs.declared.fault.Fault.the-variants.{TooLong}
-use Rattle.slip.specs.Format.{longest-slip, line-end}
-use Rattle.slip.specs.Splitting.{split}
+use Rattle.text.specs.Bytes.{line-end}
+use Rattle.slip.specs.Format.{longest-slip}
+use Rattle.text.specs.Splitting.{split}
 use Rattle.slip.specs.Adding.{unless-refused}
 use Rattle.slip.specs.Reading.{start, read-lines, read, left-entries}
 use Rattle.slip.specs.Texts.{Slip-of}

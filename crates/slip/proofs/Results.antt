@@ -1,18 +1,10 @@
--- Results and options told apart and taken apart, and one result after another.
+-- Results told apart and taken apart, and one result after another.
 use Prim.Native.Nat.{ℕ}
 use mathlib.Core.Path.{_≡_, refl}
 use native.Mathlib.Omega.{arith}
-use Rattle.std.specs.declared.option.Option.{Option}
-use Rattle.std.specs.declared.option.Option.the-variants.{Some, None}
 use Rattle.std.specs.declared.result.Result.{Result}
 use Rattle.std.specs.declared.result.Result.the-variants.{Ok, Err}
 use Rattle.slip.specs.Adding.{then, unless-refused}
-
-pub none-some : {A B : Type 0} (x : A) → _≡_ {A = Option A} None (Some x) → B
-none-some x q = let z : _≡_ {A = ℕ} 0 1 = cc in absurd (omega arith)
-
-pub some-same : {A : Type 0} (x y : A) → _≡_ {A = Option A} (Some x) (Some y) → x ≡ y
-some-same x y q = cc
 
 pub err-ok : {A B E : Type 0} (e : E) (x : A) → _≡_ {A = Result A E} (Err e) (Ok x) → B
 err-ok e x q = let z : _≡_ {A = ℕ} 0 1 = cc in absurd (omega arith)

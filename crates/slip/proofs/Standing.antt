@@ -17,9 +17,10 @@ use Rattle.sheet.specs.declared.records.Link.{Link}
 use Rattle.sheet.specs.Entries.{Entries, with-job, with-link}
 use Rattle.sheet.specs.Sound.{Sound}
 use Rattle.slip.specs.declared.line.Progress.{Progress}
-use Rattle.slip.specs.Format.{line-end}
+use Rattle.text.specs.Bytes.{line-end}
 use Rattle.slip.specs.Reading.{past-job, past-link, place-or}
-use Rattle.slip.specs.Texts.{spaced, job-fields, job-text, link-text, jobs-text, links-text}
+use Rattle.text.specs.Spaced.{spaced}
+use Rattle.slip.specs.Texts.{job-fields, job-text, link-text, jobs-text, links-text}
 use Rattle.slip.specs.Faulty.{lines-text, line-count}
 
 -- no link line was read, and the reader is where the job lines end

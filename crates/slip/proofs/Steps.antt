@@ -16,7 +16,7 @@ use Rattle.slip.specs.declared.fault.Fault.{Fault}
 use Rattle.slip.specs.declared.kind.Kind.{Kind}
 use Rattle.slip.specs.declared.kind.Kind.the-variants.{JobLine, LinkLine, Trailer}
 use Rattle.slip.specs.declared.line.Progress.{Progress}
-use Rattle.slip.specs.Splitting.{Parts, next}
+use Rattle.text.specs.Splitting.{Parts, next}
 use Rattle.slip.specs.Adding.{then}
 use Rattle.slip.specs.Reading.{past-job, past-link, past-trailer, place-or, read-job, read-link, read-trailer, kind-of, read-kind, read-line, read-lines}
 use Rattle.slip.proofs.Results.{ok-same, err-ok}

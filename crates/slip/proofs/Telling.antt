@@ -21,15 +21,17 @@ use Rattle.slip.specs.declared.fault.Fault.{Fault}
 use Rattle.slip.specs.declared.fault.Fault.the-variants.{TooLong, Unfinished, BadLetter, BadFields, UntrueTrailer, Refused}
 use Rattle.slip.specs.declared.kind.Kind.{Kind}
 use Rattle.slip.specs.declared.line.Progress.{Progress}
-use Rattle.slip.specs.Format.{longest-slip, line-end, letter-J, letter-L, letter-E}
-use Rattle.slip.specs.Splitting.{split, Without}
+use Rattle.text.specs.Bytes.{line-end}
+use Rattle.slip.specs.Format.{longest-slip, letter-J, letter-L, letter-E}
+use Rattle.text.specs.Splitting.{split, Without}
 use Rattle.slip.specs.Adding.{then, add-job, add-link, add-all, Enterable}
 use Rattle.slip.specs.Reading.{start, past-job, past-link, past-trailer, kind-of, read-kind, read-line, read-lines}
-use Rattle.slip.specs.Texts.{spaced, line-text, job-fields, link-fields, jobs-text, links-text, trailer-fields, text}
+use Rattle.text.specs.Spaced.{spaced}
+use Rattle.slip.specs.Texts.{line-text, job-fields, link-fields, jobs-text, links-text, trailer-fields, text}
 use Rattle.slip.specs.Faulty.{lines-text, line-count, Five-digits, Ill-written, Has-bad-letter, Has-bad-fields, Is-untrue, Job-is-refused, Link-is-refused, Line-has, Runs-out, Line-at-fault, Bytes-left-over, Line-after-trailer, First-fault}
 use Rattle.sheet.proofs.Accepting.{enter-sound, link-sound}
 use Rattle.slip.proofs.Results.{ok-same, then-ok, unless-refused-ok}
-use Rattle.slip.proofs.Splits.{split-next, split-last}
+use Rattle.text.proofs.Splits.{split-next, split-last}
 use Rattle.slip.proofs.Spelling.{fields-spaced, none-from-ill, split-line}
 use Rattle.slip.proofs.Entered.{last-entered, last-linked}
 use Rattle.slip.proofs.Standing.{Stands, jobs-end, unlinked-by-mark, unlinked-by-links, stands-job, stands-link}

@@ -21,15 +21,17 @@ use Rattle.slip.specs.declared.fault.Fault.the-variants.{Unfinished, BadLetter
 use Rattle.slip.specs.declared.kind.Kind.{Kind}
 use Rattle.slip.specs.declared.kind.Kind.the-variants.{JobLine, LinkLine, Trailer}
 use Rattle.slip.specs.declared.line.Progress.{Progress}
-use Rattle.slip.specs.Format.{line-end, letter-J, letter-L, letter-E}
-use Rattle.slip.specs.Splitting.{Parts, last, next, split, Without}
+use Rattle.text.specs.Bytes.{line-end}
+use Rattle.slip.specs.Format.{letter-J, letter-L, letter-E}
+use Rattle.text.specs.Splitting.{Parts, last, next, split, Without}
 use Rattle.slip.specs.Adding.{then, unless-refused, add-job, add-link, Enterable}
 use Rattle.slip.specs.Reading.{job-from, link-from, place-or, start, past-job, past-link, past-trailer, or-refused, true-figures, kind-of, read-kind, read-lines}
-use Rattle.slip.specs.Texts.{spaced, line-text, job-fields, link-fields, jobs-text, links-text, trailer-fields, text}
+use Rattle.text.specs.Spaced.{spaced}
+use Rattle.slip.specs.Texts.{line-text, job-fields, link-fields, jobs-text, links-text, trailer-fields, text}
 use Rattle.slip.specs.Faulty.{lines-text, line-count, Five-digits, Line-has, First-fault}
 use Rattle.sheet.proofs.Accepting.{none-sound, enter-sound, link-sound}
-use Rattle.slip.proofs.Splits.{rejoined, rejoined-split, All-without, split-without}
-use Rattle.slip.proofs.Fields.{three-numbers, four-numbers}
+use Rattle.text.proofs.Splits.{rejoined, rejoined-split, All-without, split-without}
+use Rattle.text.proofs.Spacing.{three-places, four-places}
 use Rattle.slip.proofs.Entered.{enterable-job, enterable-link}
 use Rattle.slip.proofs.Standing.{Unlinked, Stands, jobs-end, unlinked-by-mark, unlinked-by-links, stands-job, stands-link, lines-text-job, lines-text-link}
 use Rattle.slip.proofs.Cases.{kind-cases, fields-cases, figures-true, figures-are}
@@ -81,7 +83,7 @@ module _ (bytes : List ℕ) (ps : Parts) (at : Progress) (b : Entries) (i : Stan
       (λ ill. fault x _ e (i .line-is, inl (f, u .1, ill)))
       (λ ns s.
       let j = job-from ns in
-      let q : ns ≡ job-fields j = four-numbers ns (s .1) in
+      let q : ns ≡ job-fields j = four-places ns (s .1) in
       let h : fs ≡ spaced (job-fields j) = s .0 ∙ ap spaced q in
       elim (enter-answer b j) as (λ v. enter-answer b j ≡ v → Goes-on (past-job at (length fs)) (or-refused (at .line) (unless-refused v (with-job b j)))) [
         | Ok k ↦ λ a. go (past-job at (length fs)) (with-job b j) (stands-job at b j fs i u (enter-sound b j k (i .sound) a) h)
@@ -96,7 +98,7 @@ module _ (bytes : List ℕ) (ps : Parts) (at : Progress) (b : Entries) (i : Stan
       (λ ill. fault x _ e (i .line-is, inr (inl f, ill)))
       (λ ns s.
       let l = link-from ns in
-      let q : ns ≡ link-fields l = three-numbers ns (s .1) in
+      let q : ns ≡ link-fields l = three-places ns (s .1) in
       let h : fs ≡ spaced (link-fields l) = s .0 ∙ ap spaced q in
       elim (link-answer b l) as (λ v. link-answer b l ≡ v → Goes-on (past-link at (length fs)) (or-refused (at .line) (unless-refused v (with-link b l)))) [
         | Ok k ↦ λ a. go (past-link at (length fs)) (with-link b l) (stands-link at b l (length fs) i (link-sound b l (i .sound) a))

@@ -1,6 +1,6 @@
 -- The first separator splits the bytes, and without one there is nothing to split.
-use Rattle.slip.proofs.Splits.{split-slices, slices-length, split-none}
-use Rattle.slip.proofs.split.split_at.Needs as need
+use Rattle.text.proofs.Splits.{split-slices, slices-length, split-none}
+use Rattle.text.proofs.split.split_at.Needs as need
 
 pub returns-then-byte-separator : need.returns-then-byte-separator
 returns-then-byte-separator c = record {

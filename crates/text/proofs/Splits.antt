@@ -9,7 +9,7 @@ use lib.Dec.{eqb}
 use lib.ListN.{length, getD, take, drop}
 use Rattle.std.proofs.shelf.Tests.{eq-eqb, ne-eqb, eqb-true, eqb-false, cond-both}
 use Rattle.std.proofs.shelf.Lists.{take-append-drop, drop-more, take-all, take-rest, length-take-le, length-drop}
-use Rattle.slip.specs.Splitting.{Parts, last, next, onto-first, split, Without}
+use Rattle.text.specs.Splitting.{Parts, last, next, onto-first, split, Without}
 
 pub split-next : (sep : ℕ) (xs ys : List ℕ) → Without sep xs → split sep (xs ++ (sep ∷ ys)) ≡ next xs (split sep ys)
 split-next sep [] ys h = let e : eqb sep sep ≡ true = eq-eqb sep sep refl in rw e

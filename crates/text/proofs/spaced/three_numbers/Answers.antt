@@ -1,8 +1,8 @@
 -- Two numbers with a space after each, and the last.
 use mathlib.Core.Path.{sym, _∙_, ap}
 use Rattle.std.specs.declared.option.Option.the-variants.{Some}
-use Rattle.slip.specs.Fields.{in-front}
-use Rattle.slip.proofs.field.three_numbers.Needs as need
+use Rattle.text.specs.Spaced.{in-front}
+use Rattle.text.proofs.spaced.three_numbers.Needs as need
 
 pub returns-in-Break-first : need.returns-in-Break-first
 returns-in-Break-first c = rw (c .from-residual .ensures) (sym (c .in-Break-first .ensures tt 1))
