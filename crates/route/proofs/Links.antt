@@ -1,5 +1,5 @@
 -- What the links make of windows.
-use mathlib.Core.Path.{_≡_, ap, _∙_}
+use mathlib.Core.Path.{_≡_, ap}
 use mathlib.Core.List.{List}
 use mathlib.Core.Bool.{true, false}
 use Prim.Native.Nat.{ℕ, _+_, _-_, _≤_, _<_, max, min}
@@ -32,9 +32,9 @@ module _ (js : List Job) (ws : List Window) (ls : List Link) where
   earliest-after-link i h =
       tightest-link max (λ l. l .to) (start-after js ws) (λ j. window ws j .lo) (λ x. start-after js ws (link ls i) ≤ x) (λ x y p. omega arith) (λ x y p. omega arith) ls i h (omega arith)
 
-  -- the windows with all the bounds set
-  abbrev pub narrowed : List Window
-  narrowed = tabulate (between (earliest-start js ws ls) (past-latest-start js ws ls)) (length ws)
+-- the windows with all the bounds set
+abbrev pub narrowed : List Window → List Job → List Link → List Window
+narrowed ws js ls = tabulate (between (earliest-start js ws ls) (past-latest-start js ws ls)) (length ws)
 
 module _ (e : Entries) (s : Sound e) (ws : List Window) (f : Formed (length (e .jobs)) ws) where
   first-there : (i : ℕ) → i < length (e .links) → link (e .links) i .from < length ws
@@ -43,25 +43,19 @@ module _ (e : Entries) (s : Sound e) (ws : List Window) (f : Formed (length (e .
   second-there : (i : ℕ) → i < length (e .links) → link (e .links) i .to < length ws
   second-there i h = omega (arith, s .linked i h .1, f .count)
 
-  narrowed-as-entered : (js : List Job) (ls : List Link) (vs : List Window) → js ≡ e .jobs → ls ≡ e .links → vs ≡ narrowed js ws ls → vs ≡ narrowed (e .jobs) ws (e .links)
-  narrowed-as-entered js ls vs p q n = n ∙ ap (λ (xs : List Job). narrowed xs ws ls) p ∙ ap (λ (xs : List Link). narrowed (e .jobs) ws xs) q
-
   -- a link with a last start below zero has a second job that starts too late, which the test notices
-  no-end-at-zero : (vs : List Window) → vs ≡ narrowed (e .jobs) ws (e .links) → formed (length ws) vs ≡ true → (k : ℕ) → k < length ws → 0 < past-latest-start (e .jobs) ws (e .links) k
+  no-end-at-zero : (vs : List Window) → vs ≡ narrowed ws (e .jobs) (e .links) → formed (length ws) vs ≡ true → (k : ℕ) → k < length ws → 0 < past-latest-start (e .jobs) ws (e .links) k
   no-end-at-zero vs n t k h =
       tightest-all min (λ l. l .from) (past-before (e .jobs) ws) (λ j. window ws j .hi + 1) (λ x. 0 < x) (λ x y p q. omega arith) (e .links) k (omega arith) (λ i l at.
       let second = link (e .links) i .to in
       omega (arith, passed-ordered _ _ ws vs n t second (second-there i l), earliest-after-link (e .jobs) ws (e .links) i l, latest-not-later (e .jobs) ws (e .links) second))
 
   -- the narrowed copy is set if it is well formed, and the rule is dead if not
-  pub route-passed : (js : List Job) (ls : List Link) (vs : List Window) → js ≡ e .jobs → ls ≡ e .links → vs ≡ narrowed js ws ls → formed (length ws) vs ≡ true → route-cut e ws ≡ live vs
-  route-passed js ls vs p q n t =
-      let m = narrowed-as-entered js ls vs p q n in
-      together-passed _ _ ws vs m t (no-end-at-zero vs m t)
+  pub route-passed : (vs : List Window) → vs ≡ narrowed ws (e .jobs) (e .links) → formed (length ws) vs ≡ true → route-cut e ws ≡ live vs
+  route-passed vs n t = together-passed _ _ ws vs n t (no-end-at-zero vs n t)
 
-  pub route-failed : (js : List Job) (ls : List Link) (vs : List Window) → js ≡ e .jobs → ls ≡ e .links → vs ≡ narrowed js ws ls → formed (length ws) vs ≡ false → route-cut e ws ≡ dead
-  route-failed js ls vs p q n t =
-      together-failed _ _ ws vs (narrowed-as-entered js ls vs p q n) f (earliest-not-sooner (e .jobs) ws (e .links)) (latest-not-later (e .jobs) ws (e .links)) t
+  pub route-failed : (vs : List Window) → vs ≡ narrowed ws (e .jobs) (e .links) → formed (length ws) vs ≡ false → route-cut e ws ≡ dead
+  route-failed vs n t = together-failed _ _ ws vs n f (earliest-not-sooner (e .jobs) ws (e .links)) (latest-not-later (e .jobs) ws (e .links)) t
 
   pub route-keeps : (t : List ℕ) → All-hold e t → Inside t ws → Keeps (route-cut e ws) t
   route-keeps t holds inside =

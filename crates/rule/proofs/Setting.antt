@@ -9,9 +9,10 @@ use lib.Dec.{eqb}
 use lib.ListN.{length, getD, set, take, length-set, List·getD-map}
 use lib.Seq.{getD-set-same, getD-set-other}
 use Rattle.std.proofs.shelf.Tests.{both-ways, cases-bool, cases-eq, cond-true, cond-false, cond-both, eqb-true, eq-eqb, ne-eqb}
+use Rattle.sheet.specs.declared.records.Job.{Job}
 use Rattle.sheet.specs.declared.records.Link.{Link}
 use Rattle.sheet.specs.declared.records.Window.{Window}
-use Rattle.sheet.specs.Entries.{link}
+use Rattle.sheet.specs.Entries.{Entries, link}
 use Rattle.rule.specs.Windows.{window, window-of, formed, Formed, Within, starts}
 use Rattle.rule.specs.Cuts.{Cut, dead, live}
 use Rattle.rule.specs.Bounds.{between, tabulate, all-open, together}
@@ -94,6 +95,10 @@ module _ (at bound : Link → ℕ) (own other : ℕ → ℕ) (ws vs : List Windo
             omega (arith, b .high k h)) (b .high k h)
             ∙ ap (λ (z : ℕ). z - 1) (sym (tightest-more min at bound own (λ x y z. omega arith) ls i k here));
       }
+
+-- the jobs and links that a function was handed are those of the sheet
+pub as-entered : (f : List Job → List Link → List Window) (e : Entries) (js : List Job) (ls : List Link) (vs : List Window) → js ≡ e .jobs → ls ≡ e .links → vs ≡ f js ls → vs ≡ f (e .jobs) (e .links)
+as-entered f e js ls vs p q made = made ∙ ap (λ (xs : List Job). f xs ls) p ∙ ap (f (e .jobs)) q
 
 -- a copy that was tested for being well formed
 module _ (lo end : ℕ → ℕ) (ws vs : List Window) (set-in : vs ≡ tabulate (between lo end) (length ws)) where
