@@ -14,7 +14,7 @@ use Rattle.sheet.specs.declared.records.Link.{Link}
 use Rattle.sheet.specs.declared.records.Window.{Window}
 use Rattle.sheet.specs.Entries.{Entries, link}
 use Rattle.rule.specs.Windows.{window, window-of, formed, Formed, Within, starts}
-use Rattle.rule.specs.Cuts.{Cut, dead, live}
+use Rattle.rule.specs.Cuts.{dead, live}
 use Rattle.rule.specs.Bounds.{between, tabulate, all-open, together}
 use Rattle.rule.specs.Tightest.{tightest}
 use Rattle.rule.proofs.Forming.{formed-fact, formed-test, within-formed, window-eq, windows-eq}

@@ -6,12 +6,15 @@ use mathlib.Core.Logic.{⊎-elim}
 use Prim.Native.Nat.{ℕ}
 use Rattle.std.proofs.shelf.Tests.{cond-true, cond-false, cases-bool}
 use Rattle.sheet.specs.declared.records.Window.{Window}
-use Rattle.rule.specs.Windows.{Formed, Within}
-use Rattle.rule.specs.Cuts.{live}
+use Rattle.rule.specs.Windows.{Formed, Within, Single}
+use Rattle.rule.specs.Cuts.{dead, live}
 use Rattle.rule.proofs.Forming.{still-within, dead-not-live}
 use Rattle.forbid_all.specs.ForbidAll.{all-single, forbid-all-cut}
 use Rattle.forbid_all.proofs.Single.{single-test}
 use Rattle.forbid_all.proofs.ForbidAllRule.the-impl.Needs as need
+
+single-dead : (ws : List Window) → Single ws → forbid-all-cut ws ≡ dead
+single-dead ws single = cond-true _ _ _ (single-test ws single)
 
 unchanged-within : {n : ℕ} (ws vs : List Window) → Formed n ws → forbid-all-cut ws ≡ live vs → Within vs ws
 unchanged-within ws vs f alive =
@@ -27,5 +30,5 @@ pub lawful-law : need.lawful-law
 lawful-law r e s = record {
   contracting = λ ws vs f alive. unchanged-within ws vs f alive;
   preserving = λ ws t f admitted inside. absurd admitted;
-  checking = λ ws vs f single alive. dead-not-live vs (sym (cond-true _ _ _ (single-test ws single)) ∙ alive);
+  checking = λ ws vs f single alive. dead-not-live vs (sym (single-dead ws single) ∙ alive);
 }
