@@ -1,0 +1,8 @@
+// The slip reader: bytes to a sheet's jobs and links, or the first fault.
+pub mod fault;
+mod field;
+mod kind;
+mod line;
+mod number;
+pub mod reader;
+mod split;
