@@ -3,3 +3,4 @@ pub mod Stages
 pub mod Ledgers
 pub mod Promise
 pub mod Planners
+pub mod Carrying

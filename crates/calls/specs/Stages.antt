@@ -2,6 +2,7 @@
 use mathlib.Core.Path.{_≡_}
 use mathlib.Core.List.{List, [], _∷_}
 use Prim.Native.Nat.{ℕ}
+use lib.ListN.{length}
 use Rattle.std.specs.declared.result.Result.{Result}
 use Rattle.std.specs.declared.result.Result.the-variants.{Ok, Err}
 use Rattle.sheet.specs.declared.records.Window.{Window}
@@ -9,8 +10,8 @@ use Rattle.sheet.specs.declared.refusal.Refusal.{Refusal}
 use Rattle.sheet.specs.Entries.{Entries, no-entries, job-of, link-of, with-job, with-link, moved}
 use Rattle.sheet.specs.Entering.{enter-answer, link-answer, move-answer, taken}
 use Rattle.rule.specs.Cuts.{Cut}
-use Rattle.search.specs.Looks.{State, opened, one-look}
-use Rattle.planner.specs.Answers.{advance-answer, advanced-state, start-answer}
+use Rattle.search.specs.Looks.{State, opened, one-look, after-looks}
+use Rattle.planner.specs.Calls.{advance-answer, start-answer}
 use Rattle.calls.specs.declared.call.Call.{Call}
 use Rattle.calls.specs.declared.call.Call.the-variants.{Enter, Link, Move, Close, Advance, Start, Reopen}
 use Rattle.calls.specs.declared.call.Answer.{Answer}
@@ -25,14 +26,17 @@ pub data Stage : Type 0 where
 abbrev pub fresh : Stage
 fresh = drafting no-entries
 
-abbrev pub number-or-refused : Result ℕ Refusal → Answer
-number-or-refused (Ok n) = Number n
-number-or-refused (Err r) = Refused r
+-- the number that an accepted call answers, or the refusal
+abbrev pub numbered : {A : Type 0} → (A → ℕ) → Result A Refusal → Answer
+numbered number (Ok a) = Number (number a)
+numbered number (Err r) = Refused r
 
--- a link and a move answer 0
-abbrev pub zero-or-refused : Result (Unit {0}) Refusal → Answer
-zero-or-refused (Ok u) = Number 0
-zero-or-refused (Err r) = Refused r
+-- enter and start answer their number, link and move answer 0
+abbrev pub own : ℕ → ℕ
+own n = n
+
+abbrev pub zero : Unit {0} → ℕ
+zero u = 0
 
 abbrev pub advanced-or-refused : Result (ℕ × ℕ) Refusal → Answer
 advanced-or-refused (Ok x) = Advanced (x .0) (x .1)
@@ -40,9 +44,9 @@ advanced-or-refused (Err r) = Refused r
 
 module _ (cut : Entries → List Window → Cut) where
   abbrev pub answer-of : Stage → Call → Answer
-  answer-of (drafting e) (Enter s p r d) = number-or-refused (enter-answer e (job-of s p r d))
-  answer-of (drafting e) (Link a b w) = zero-or-refused (link-answer e (link-of a b w))
-  answer-of (drafting e) (Move k r d) = zero-or-refused (move-answer e k r d)
+  answer-of (drafting e) (Enter s p r d) = numbered own (enter-answer e (job-of s p r d))
+  answer-of (drafting e) (Link a b w) = numbered zero (link-answer e (link-of a b w))
+  answer-of (drafting e) (Move k r d) = numbered zero (move-answer e k r d)
   answer-of (drafting e) Close = Closed
   answer-of (drafting e) (Advance g) = OutOfTurn
   answer-of (drafting e) (Start k) = OutOfTurn
@@ -52,7 +56,7 @@ module _ (cut : Entries → List Window → Cut) where
   answer-of (searching e x) (Move k r d) = OutOfTurn
   answer-of (searching e x) Close = OutOfTurn
   answer-of (searching e x) (Advance g) = advanced-or-refused (advance-answer (one-look (cut e) e) g x)
-  answer-of (searching e x) (Start k) = number-or-refused (start-answer e x k)
+  answer-of (searching e x) (Start k) = numbered own (start-answer (length (e .jobs)) x k)
   answer-of (searching e x) Reopen = Reopened
 
   abbrev pub stage-after : Stage → Call → Stage
@@ -67,7 +71,7 @@ module _ (cut : Entries → List Window → Cut) where
   stage-after (searching e x) (Link a b w) = searching e x
   stage-after (searching e x) (Move k r d) = searching e x
   stage-after (searching e x) Close = searching e x
-  stage-after (searching e x) (Advance g) = searching e (advanced-state (one-look (cut e) e) g x)
+  stage-after (searching e x) (Advance g) = searching e (taken (advance-answer (one-look (cut e) e) g x) x (after-looks (one-look (cut e) e) g x))
   stage-after (searching e x) (Start k) = searching e x
   stage-after (searching e x) Reopen = drafting e
 

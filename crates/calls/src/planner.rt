@@ -1,6 +1,6 @@
 // A draft or a search, whichever the calls so far have led to.
 use planner::draft::Draft;
-use planner::search::Search;
+use planner::state::Search;
 
 /// What calls are carried out on.
 #[derive(Drop)]

@@ -13,7 +13,7 @@ use Rattle.rule.specs.Laws.{Lawful}
 use Rattle.search.specs.declared.decision.Decision.{Decision}
 use Rattle.search.specs.Entered.{entered-windows}
 use Rattle.search.specs.Looks.{State, opened, found, impossible, path-of, one-look, after-looks, looks-made}
-use Rattle.search.specs.Promise.{most-looks, Promise, Promised, Keeps-promise, advances, reports, total}
+use Rattle.search.specs.Promise.{enough-looks, Promise, Promised, Keeps-promise, advances, reports, total}
 use Rattle.search.proofs.Looking.{entered-formed, Good, start-good, run-good, good-few, good-grown, look-left}
 use Rattle.search.proofs.Rows.{composes, after-add, made-add, made-within, open-spent}
 use Rattle.search.proofs.Depth.{path-short}
@@ -24,7 +24,7 @@ module _ {admits : List ℕ → Type 0} {cut : List Window → Cut} (e : Entries
       subst (λ (m : ℕ). Good admits (entered-windows e) m (after-looks (one-look cut e) k (opened []))) (omega arith)
       (run-good laws e (entered-formed e sound) k 0 (opened []) (start-good admits (entered-windows e)))
 
-  settles : (k m : ℕ) (s : State) → Good admits (entered-windows e) m s → ((p : List Decision) → s ≡ opened p → m ≡ k) → most-looks e ≤ k → (s ≡ impossible) ⊎ ((p : List Decision) × (t : List ℕ) × (s ≡ found p t))
+  settles : (k m : ℕ) (s : State) → Good admits (entered-windows e) m s → ((p : List Decision) → s ≡ opened p → m ≡ k) → enough-looks e ≤ k → (s ≡ impossible) ⊎ ((p : List Decision) × (t : List ℕ) × (s ≡ found p t))
   settles k m (opened p) g f h = absurd (omega (arith, f p refl, look-left laws e (entered-formed e sound) m p g))
   settles k m (found p t) g f h = inr (p, t, refl)
   settles k m impossible g f h = inl refl

@@ -19,15 +19,15 @@ abbrev pub Fits : (List ℕ → Type 0) → Entries → List ℕ → Type 0
 Fits admits e t = Inside t (entered-windows e) × admits t
 
 -- the looks that settle every search of a sheet: twice the number of its timetables, less one
-abbrev pub most-looks : Entries → ℕ
-most-looks e = 2 * timetables (entered-windows e) - 1
+abbrev pub enough-looks : Entries → ℕ
+enough-looks e = 2 * timetables (entered-windows e) - 1
 
 -- what holds of a search to which so many looks were granted since it was closed, and which reported so many
 pub record Promise (admits : List ℕ → Type 0) (e : Entries) (granted reported : ℕ) (s : State) : Type 0 where
   pub none-fits : s ≡ impossible → (t : List ℕ) → Fits admits e t → ⊥
   pub one-fits : (p : List Decision) (t : List ℕ) → s ≡ found p t → Fits admits e t
-  pub few : reported ≤ most-looks e
-  pub enough : most-looks e ≤ granted → (s ≡ impossible) ⊎ ((p : List Decision) × (t : List ℕ) × (s ≡ found p t))
+  pub few : reported ≤ enough-looks e
+  pub enough : enough-looks e ≤ granted → (s ≡ impossible) ⊎ ((p : List Decision) × (t : List ℕ) × (s ≡ found p t))
   pub spent : (p : List Decision) → s ≡ opened p → reported ≡ granted
   pub granted-only : reported ≤ granted
   pub short : length (path-of s) ≤ most-decisions

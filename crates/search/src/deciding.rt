@@ -1,12 +1,11 @@
 // How a path grows, goes back after a dead end, and cuts windows down.
 ghost use mathlib.Core.Path.{_≡_};
 ghost use mathlib.Core.List.{[], _∷_};
-ghost use mathlib.Core.Bool.{Bool};
 ghost use Prim.Native.Nat.{_<_};
-ghost use lib.ListN.{length, replicate};
-ghost use Rattle.search.specs.Deciding.{blank-decision, cut-down, Grown};
+ghost use lib.ListN.{length};
+ghost use Rattle.search.specs.Deciding.{cut-down, Grown};
 ghost use Rattle.search.specs.Looks.{backtracked, is-open, path-of};
-ghost use Rattle.search.specs.Paths.{decisions, most-decisions};
+ghost use Rattle.search.specs.Paths.{decisions, most-decisions, Blank};
 use crate::decision::BLANK_DECISION;
 use crate::decision::Decision;
 use crate::decision::Part;
@@ -18,7 +17,7 @@ impl Path {
     /// A path with no decision, every place blank.
     pub fn new() -> Path
         ensures decisions { λ r. ⌜ decisions r ≡ [] ⌝ }
-        ensures blank { λ r. ⌜ r .places ≡ replicate most-decisions blank-decision ⌝ }
+        ensures blank { λ r. ⌜ Blank r ⌝ }
     {
         Path {
             places: [BLANK_DECISION; MAX_DECISIONS],

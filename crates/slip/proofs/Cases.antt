@@ -1,8 +1,8 @@
 -- What a line can be: by its letter, by its fields, by a trailer's figures.
 use Prim.Native.Nat.{ℕ, _<_}
-use mathlib.Core.Path.{_≡_, refl, sym, ap, subst, _∙_}
+use mathlib.Core.Path.{_≡_, refl, _∙_}
 use mathlib.Core.Logic.{⊎-elim}
-use mathlib.Core.Bool.{Bool, true, false, _&&_}
+use mathlib.Core.Bool.{Bool, true, false}
 use mathlib.Core.List.{List, [], _∷_}
 use native.Mathlib.Omega.{arith}
 use lib.Dec.{eqb}
@@ -11,7 +11,7 @@ use Rattle.std.proofs.shelf.Tests.{cond-both, both-ways, cases-bool, and-parts,
 use Rattle.std.specs.declared.option.Option.{Option}
 use Rattle.std.specs.declared.option.Option.the-variants.{Some, None}
 use Rattle.std.specs.declared.result.Result.{Result}
-use Rattle.std.specs.declared.result.Result.the-variants.{Ok, Err}
+use Rattle.std.specs.declared.result.Result.the-variants.{Err}
 use Rattle.sheet.specs.Entries.{Entries}
 use Rattle.slip.specs.declared.fault.Fault.{Fault}
 use Rattle.slip.specs.declared.fault.Fault.the-variants.{BadFields}
@@ -23,7 +23,7 @@ use Rattle.slip.specs.Adding.{then}
 use Rattle.slip.specs.Reading.{or-bad-fields, true-figures, kind-of}
 use Rattle.slip.specs.Texts.{jobs-text, trailer-fields}
 use Rattle.slip.specs.Faulty.{Ill-written}
-use Rattle.slip.proofs.Fields.{three-numbers}
+use Rattle.text.proofs.Spacing.{three-places}
 use Rattle.slip.proofs.Spelling.{Spells, spells-fields, ill-from-none}
 
 -- a letter that begins no line
@@ -64,7 +64,7 @@ pub figures-are : (b : Entries) (ns : List ℕ) → length ns ≡ 3 → true-fig
 figures-are b ns l t =
     let x = and-parts (eqb (getD ns 0 0) (length (b .jobs))) _ t in
     let y = and-parts (eqb (getD ns 1 0) (length (b .links))) (eqb (getD ns 2 0) (length (jobs-text b))) (x .1) in
-    three-numbers ns l ∙ three-same _ _ _ _ _ _ (eqb-true _ _ (x .0)) (eqb-true _ _ (y .0)) (eqb-true _ _ (y .1))
+    three-places ns l ∙ three-same _ _ _ _ _ _ (eqb-true _ _ (x .0)) (eqb-true _ _ (y .0)) (eqb-true _ _ (y .1))
 
 pub figures-false : (b : Entries) (ns : List ℕ) → length ns ≡ 3 → (ns ≡ trailer-fields b → ⊥) → true-figures b (length (jobs-text b)) ns ≡ false
 figures-false b ns l h =

@@ -12,14 +12,15 @@ use Rattle.std.specs.declared.result.Result.the-variants.{Ok, Err}
 use Rattle.sheet.specs.Entries.{Entries, no-entries}
 use Rattle.slip.specs.declared.fault.Fault.{Fault}
 use Rattle.slip.specs.declared.fault.Fault.the-variants.{TooLong}
-use Rattle.slip.specs.Format.{longest-slip, line-end}
-use Rattle.slip.specs.Splitting.{split}
+use Rattle.text.specs.Bytes.{line-end}
+use Rattle.slip.specs.Format.{longest-slip}
+use Rattle.text.specs.Splitting.{split}
 use Rattle.slip.specs.Adding.{unless-refused}
 use Rattle.slip.specs.Reading.{start, read-lines, read, left-entries}
 use Rattle.slip.specs.Texts.{Slip-of}
 use Rattle.slip.specs.Faulty.{First-fault, Faulty}
 use Rattle.slip.specs.Laws.{Reader-law}
-use Rattle.slip.proofs.Answers.{err-ok, err-same}
+use Rattle.slip.proofs.Results.{err-ok, err-same}
 use Rattle.slip.proofs.Walk.{Comes-to, read-lines-comes-to}
 use Rattle.slip.proofs.Telling.{read-text, tell-first-fault}
 

@@ -1,10 +1,6 @@
 -- Lemmas of the slip reader.
-pub mod Answers
-pub mod Digits
-pub mod Splits
-pub mod Fields
+pub mod Results
 pub mod Steps
-pub mod Decimals
 pub mod Spelling
 pub mod Entered
 pub mod Standing

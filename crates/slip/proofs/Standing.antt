@@ -1,5 +1,5 @@
 -- Where the reader stands after good lines, before any trailer.
-use Prim.Native.Nat.{ℕ, _+_, _<_, _≤_}
+use Prim.Native.Nat.{ℕ, _+_}
 use mathlib.Core.Path.{_≡_, sym, ap, _∙_}
 use mathlib.Core.Logic.{_⊎_, inl, inr, ⊎-elim}
 use mathlib.Core.Bool.{false}
@@ -14,12 +14,13 @@ use Rattle.std.specs.declared.option.Option.{Option}
 use Rattle.std.specs.declared.option.Option.the-variants.{Some, None}
 use Rattle.sheet.specs.declared.records.Job.{Job}
 use Rattle.sheet.specs.declared.records.Link.{Link}
-use Rattle.sheet.specs.Limits.{most-jobs, most-links}
 use Rattle.sheet.specs.Entries.{Entries, with-job, with-link}
+use Rattle.sheet.specs.Sound.{Sound}
 use Rattle.slip.specs.declared.line.Progress.{Progress}
-use Rattle.slip.specs.Format.{line-end, letter-J}
+use Rattle.text.specs.Bytes.{line-end}
 use Rattle.slip.specs.Reading.{past-job, past-link, place-or}
-use Rattle.slip.specs.Texts.{spaced, line-text, job-fields, job-text, link-text, jobs-text, links-text}
+use Rattle.text.specs.Spaced.{spaced}
+use Rattle.slip.specs.Texts.{job-fields, job-text, link-text, jobs-text, links-text}
 use Rattle.slip.specs.Faulty.{lines-text, line-count}
 
 -- no link line was read, and the reader is where the job lines end
@@ -34,8 +35,7 @@ pub record Stands (at : Progress) (b : Entries) : Type 0 where
   pub line-is : at .line ≡ line-count b + 1
   pub not-ended : at .ended ≡ false
   pub first-link : Unlinked at b ⊎ Linked-since at b
-  pub few-jobs : length (b .jobs) ≤ most-jobs
-  pub few-links : length (b .links) ≤ most-links
+  pub sound : Sound b
 
 pub jobs-end : (at : Progress) (b : Entries) → Stands at b → place-or (at .linked) (at .place) ≡ length (jobs-text b)
 jobs-end at b i =
@@ -57,22 +57,22 @@ joined-push : {X : Type 0} (f : X → List ℕ) (xs : List X) (x : X) → joined
 joined-push f xs x = sym (joined-more f [] xs x)
 
 -- past one more job line, and past one more link line
-pub stands-job : (at : Progress) (b : Entries) (j : Job) (fs : List ℕ) → Stands at b → Unlinked at b → length (b .jobs) < most-jobs → fs ≡ spaced (job-fields j) → Stands (past-job at (length fs)) (with-job b j)
-stands-job at b j fs i u h e =
+pub stands-job : (at : Progress) (b : Entries) (j : Job) (fs : List ℕ) → Stands at b → Unlinked at b → Sound (with-job b j) → fs ≡ spaced (job-fields j) → Stands (past-job at (length fs)) (with-job b j)
+stands-job at b j fs i u s e =
     let n = length-push (b .jobs) j in
     let l = length-append (spaced (job-fields j)) (line-end ∷ []) in
     let k : length fs ≡ length (spaced (job-fields j)) = ap length e in
     let g : length (joined job-text (b .jobs ++ (j ∷ []))) ≡ length (jobs-text b) + length (job-text j) = ap length (joined-push job-text (b .jobs) j) ∙ length-append (jobs-text b) (job-text j) in
     let p = u .2 in
-    record { line-is = omega arith; not-ended = i .not-ended; first-link = inl (u .0, u .1, omega arith); few-jobs = omega arith; few-links = i .few-links }
+    record { line-is = omega arith; not-ended = i .not-ended; first-link = inl (u .0, u .1, omega arith); sound = s }
 
 push-some : {X : Type 0} (xs : List X) (x : X) → xs ++ (x ∷ []) ≡ [] → ⊥
 push-some xs x e = let a = length-push xs x in let b : length (xs ++ (x ∷ [])) ≡ 0 = ap length e in omega arith
 
-pub stands-link : (at : Progress) (b : Entries) (l : Link) (n : ℕ) → Stands at b → length (b .links) < most-links → Stands (past-link at n) (with-link b l)
-stands-link at b l n i h =
+pub stands-link : (at : Progress) (b : Entries) (l : Link) (n : ℕ) → Stands at b → Sound (with-link b l) → Stands (past-link at n) (with-link b l)
+stands-link at b l n i s =
     let m = length-push (b .links) l in
-    record { line-is = omega arith; not-ended = i .not-ended; first-link = inr (push-some (b .links) l, ap (λ (p : ℕ). Some p) (jobs-end at b i)); few-jobs = i .few-jobs; few-links = omega arith }
+    record { line-is = omega arith; not-ended = i .not-ended; first-link = inr (push-some (b .links) l, ap (λ (p : ℕ). Some p) (jobs-end at b i)); sound = s }
 
 pub lines-text-job : (b : Entries) (j : Job) → b .links ≡ [] → lines-text b ++ job-text j ≡ lines-text (with-job b j)
 lines-text-job b j n =

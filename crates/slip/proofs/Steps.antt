@@ -16,17 +16,17 @@ use Rattle.slip.specs.declared.fault.Fault.{Fault}
 use Rattle.slip.specs.declared.kind.Kind.{Kind}
 use Rattle.slip.specs.declared.kind.Kind.the-variants.{JobLine, LinkLine, Trailer}
 use Rattle.slip.specs.declared.line.Progress.{Progress}
-use Rattle.slip.specs.Splitting.{Parts, next}
+use Rattle.text.specs.Splitting.{Parts, next}
 use Rattle.slip.specs.Adding.{then}
 use Rattle.slip.specs.Reading.{past-job, past-link, past-trailer, place-or, read-job, read-link, read-trailer, kind-of, read-kind, read-line, read-lines}
-use Rattle.slip.proofs.Answers.{ok-same, err-ok}
+use Rattle.slip.proofs.Results.{ok-same, err-ok}
 
 -- a line by its first byte and the others
 pub line-by-kind : (at : Progress) (b : Entries) (l : List ℕ) (linked : Bool) (k : Option Kind) → 0 < length l → linked ≡ isSome (at .linked) → k ≡ kind-of (getD l 0 0) linked (at .ended) → read-kind at b k (take (length l - 1) (drop 1 l)) ≡ read-line at b l
 line-by-kind at b [] linked k h e f = absurd (omega arith)
 line-by-kind at b (c ∷ fs) linked k h e f = rw (f, e, take-rest (c ∷ fs) 1)
 
-pub then-past : (r : Result Entries Fault) (p to : Progress) (c : Entries) → then {B = Progress × Entries} r (λ b. Ok (p, b)) ≡ Ok (to, c) → (p ≡ to) × (r ≡ Ok c)
+then-past : (r : Result Entries Fault) (p to : Progress) (c : Entries) → then {B = Progress × Entries} r (λ b. Ok (p, b)) ≡ Ok (to, c) → (p ≡ to) × (r ≡ Ok c)
 then-past (Ok b) p to c q = let e = ok-same {A = Progress × Entries} (p, b) (to, c) q in (ap (λ (s : Progress × Entries). s .0) e, ap (λ (s : Progress × Entries). Ok (s .1)) e)
 then-past (Err f) p to c q = err-ok f _ q
 

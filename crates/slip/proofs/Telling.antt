@@ -12,11 +12,8 @@ use Rattle.std.proofs.shelf.Lists.{append-nil, append-assoc, length-append, nil
 use Rattle.std.specs.Options.{isSome}
 use Rattle.std.specs.shelf.Lists.{joined}
 use Rattle.std.specs.declared.option.Option.{Option}
-use Rattle.std.specs.declared.option.Option.the-variants.{Some, None}
 use Rattle.std.specs.declared.result.Result.{Result}
 use Rattle.std.specs.declared.result.Result.the-variants.{Ok, Err}
-use Rattle.sheet.specs.declared.records.Job.{Job}
-use Rattle.sheet.specs.declared.records.Link.{Link}
 use Rattle.sheet.specs.declared.refusal.Refusal.{Refusal}
 use Rattle.sheet.specs.Entries.{Entries, no-entries, with-job, with-link}
 use Rattle.sheet.specs.Entering.{enter-answer, link-answer}
@@ -24,17 +21,19 @@ use Rattle.slip.specs.declared.fault.Fault.{Fault}
 use Rattle.slip.specs.declared.fault.Fault.the-variants.{TooLong, Unfinished, BadLetter, BadFields, UntrueTrailer, Refused}
 use Rattle.slip.specs.declared.kind.Kind.{Kind}
 use Rattle.slip.specs.declared.line.Progress.{Progress}
-use Rattle.slip.specs.Format.{longest-slip, line-end, letter-J, letter-L, letter-E}
-use Rattle.slip.specs.Splitting.{split, Without}
-use Rattle.slip.specs.Fields.{fields}
+use Rattle.text.specs.Bytes.{line-end}
+use Rattle.slip.specs.Format.{longest-slip, letter-J, letter-L, letter-E}
+use Rattle.text.specs.Splitting.{split, Without}
 use Rattle.slip.specs.Adding.{then, add-job, add-link, add-all, Enterable}
-use Rattle.slip.specs.Reading.{start, past-job, past-link, past-trailer, place-or, true-figures, kind-of, read-kind, read-line, read-lines}
-use Rattle.slip.specs.Texts.{spaced, line-text, job-fields, link-fields, job-text, link-text, jobs-text, links-text, trailer-fields, text}
+use Rattle.slip.specs.Reading.{start, past-job, past-link, past-trailer, kind-of, read-kind, read-line, read-lines}
+use Rattle.text.specs.Spaced.{spaced}
+use Rattle.slip.specs.Texts.{line-text, job-fields, link-fields, jobs-text, links-text, trailer-fields, text}
 use Rattle.slip.specs.Faulty.{lines-text, line-count, Five-digits, Ill-written, Has-bad-letter, Has-bad-fields, Is-untrue, Job-is-refused, Link-is-refused, Line-has, Runs-out, Line-at-fault, Bytes-left-over, Line-after-trailer, First-fault}
-use Rattle.slip.proofs.Answers.{ok-same, then-ok}
-use Rattle.slip.proofs.Splits.{split-next, split-last}
+use Rattle.sheet.proofs.Accepting.{enter-sound, link-sound}
+use Rattle.slip.proofs.Results.{ok-same, then-ok, unless-refused-ok}
+use Rattle.text.proofs.Splits.{split-next, split-last}
 use Rattle.slip.proofs.Spelling.{fields-spaced, none-from-ill, split-line}
-use Rattle.slip.proofs.Entered.{add-job-ok, add-link-ok}
+use Rattle.slip.proofs.Entered.{last-entered, last-linked}
 use Rattle.slip.proofs.Standing.{Stands, jobs-end, unlinked-by-mark, unlinked-by-links, stands-job, stands-link}
 use Rattle.slip.proofs.Cases.{kind-none, figures-true, figures-false}
 use Rattle.slip.proofs.Walk.{lines-and-trailer, stands-at-start}
@@ -69,27 +68,29 @@ all-lines add letter fields-of G h one (x ∷ xs) at b c rest i g q =
 
 one-job : One-more add-job letter-J job-fields (λ b. b .links ≡ [])
 one-job at b j c i n q =
-    let a = add-job-ok b j c q in
+    let a = unless-refused-ok (enter-answer b j) (with-job b j) c q in
+    let g = enter-sound b j (a .0) (i .sound) (a .1) in
+    let d = last-entered b j g in
     let u = unlinked-by-links at b i n in
-    let d = a .2 in
     let s : Five-digits (job-fields j) = (omega arith, (omega arith, (omega arith, (omega arith, tt)))) in
     let lk = u .0 in let en = i .not-ended in let f = fields-spaced 4 (job-fields j) refl (omega arith) s in (
       past-job at (length (spaced (job-fields j))),
-      subst (Stands (past-job at (length (spaced (job-fields j))))) (a .0) (stands-job at b j (spaced (job-fields j)) i u (a .1) refl),
-      subst (λ (x : Entries). x .links ≡ []) (a .0) n,
+      subst (Stands (past-job at (length (spaced (job-fields j))))) (a .2) (stands-job at b j (spaced (job-fields j)) i u g refl),
+      subst (λ (x : Entries). x .links ≡ []) (a .2) n,
       s,
       rw (lk, en, f, q),
     )
 
 one-link : One-more add-link letter-L link-fields (λ _. Unit {0})
 one-link at b l c i n q =
-    let a = add-link-ok b l c q in
-    let d = a .2 in
-    let k = i .few-jobs in
+    let a = unless-refused-ok (link-answer b l) (with-link b l) c q in
+    let g = link-sound b l (i .sound) (a .1) in
+    let d = last-linked b l g in
+    let k = i .sound .few-jobs in
     let s : Five-digits (link-fields l) = (omega arith, (omega arith, (omega arith, tt))) in
     let en = i .not-ended in let f = fields-spaced 3 (link-fields l) refl (omega arith) s in (
       past-link at (length (spaced (link-fields l))),
-      subst (Stands (past-link at (length (spaced (link-fields l))))) (a .0) (stands-link at b l (length (spaced (link-fields l))) i (a .1)),
+      subst (Stands (past-link at (length (spaced (link-fields l))))) (a .2) (stands-link at b l (length (spaced (link-fields l))) i g),
       tt,
       s,
       rw (en, f, q),

@@ -1,8 +1,8 @@
 -- What comes of the bytes, read from the top: they are the slip of what was read, or have the fault that is told.
 use Prim.Native.Nat.{ℕ, _+_}
 use mathlib.Core.Path.{_≡_, refl, sym, ap, subst, _∙_}
-use mathlib.Core.Logic.{inl, inr, ⊎-elim}
-use mathlib.Core.Bool.{Bool, true, false, cond, _&&_}
+use mathlib.Core.Logic.{inl, inr}
+use mathlib.Core.Bool.{Bool, true, cond}
 use mathlib.Core.List.{List, [], _∷_, _++_}
 use native.Mathlib.Omega.{arith}
 use lib.Dec.{eqb}
@@ -11,7 +11,7 @@ use Rattle.std.proofs.shelf.Tests.{cond-both, both-ways, eqb-false, eqb-true}
 use Rattle.std.proofs.shelf.Lists.{append-nil, append-assoc, nil-from-length}
 use Rattle.std.specs.Options.{isSome}
 use Rattle.std.specs.declared.option.Option.{Option}
-use Rattle.std.specs.declared.option.Option.the-variants.{Some, None}
+use Rattle.std.specs.declared.option.Option.the-variants.{Some}
 use Rattle.std.specs.declared.result.Result.{Result}
 use Rattle.std.specs.declared.result.Result.the-variants.{Ok, Err}
 use Rattle.sheet.specs.Entries.{Entries, no-entries, with-job, with-link}
@@ -21,15 +21,18 @@ use Rattle.slip.specs.declared.fault.Fault.the-variants.{Unfinished, BadLetter
 use Rattle.slip.specs.declared.kind.Kind.{Kind}
 use Rattle.slip.specs.declared.kind.Kind.the-variants.{JobLine, LinkLine, Trailer}
 use Rattle.slip.specs.declared.line.Progress.{Progress}
-use Rattle.slip.specs.Format.{line-end, letter-J, letter-L, letter-E}
-use Rattle.slip.specs.Splitting.{Parts, last, next, split, Without}
+use Rattle.text.specs.Bytes.{line-end}
+use Rattle.slip.specs.Format.{letter-J, letter-L, letter-E}
+use Rattle.text.specs.Splitting.{Parts, last, next, split, Without}
 use Rattle.slip.specs.Adding.{then, unless-refused, add-job, add-link, Enterable}
 use Rattle.slip.specs.Reading.{job-from, link-from, place-or, start, past-job, past-link, past-trailer, or-refused, true-figures, kind-of, read-kind, read-lines}
-use Rattle.slip.specs.Texts.{spaced, line-text, job-fields, link-fields, jobs-text, links-text, trailer-fields, text}
+use Rattle.text.specs.Spaced.{spaced}
+use Rattle.slip.specs.Texts.{line-text, job-fields, link-fields, jobs-text, links-text, trailer-fields, text}
 use Rattle.slip.specs.Faulty.{lines-text, line-count, Five-digits, Line-has, First-fault}
-use Rattle.slip.proofs.Splits.{rejoined, rejoined-split, All-without, split-without}
-use Rattle.slip.proofs.Fields.{three-numbers, four-numbers}
-use Rattle.slip.proofs.Entered.{enter-ok, link-ok, enterable-job, enterable-link}
+use Rattle.sheet.proofs.Accepting.{none-sound, enter-sound, link-sound}
+use Rattle.text.proofs.Splits.{rejoined, rejoined-split, All-without, split-without}
+use Rattle.text.proofs.Spacing.{three-places, four-places}
+use Rattle.slip.proofs.Entered.{enterable-job, enterable-link}
 use Rattle.slip.proofs.Standing.{Unlinked, Stands, jobs-end, unlinked-by-mark, unlinked-by-links, stands-job, stands-link, lines-text-job, lines-text-link}
 use Rattle.slip.proofs.Cases.{kind-cases, fields-cases, figures-true, figures-are}
 
@@ -80,10 +83,10 @@ module _ (bytes : List ℕ) (ps : Parts) (at : Progress) (b : Entries) (i : Stan
       (λ ill. fault x _ e (i .line-is, inl (f, u .1, ill)))
       (λ ns s.
       let j = job-from ns in
-      let q : ns ≡ job-fields j = four-numbers ns (s .1) in
+      let q : ns ≡ job-fields j = four-places ns (s .1) in
       let h : fs ≡ spaced (job-fields j) = s .0 ∙ ap spaced q in
       elim (enter-answer b j) as (λ v. enter-answer b j ≡ v → Goes-on (past-job at (length fs)) (or-refused (at .line) (unless-refused v (with-job b j)))) [
-        | Ok k ↦ λ a. go (past-job at (length fs)) (with-job b j) (stands-job at b j fs i u (enter-ok b j k a .0) h)
+        | Ok k ↦ λ a. go (past-job at (length fs)) (with-job b j) (stands-job at b j fs i u (enter-sound b j k (i .sound) a) h)
             (enterable-job b j (with-job b j) (u .1) t (ap (λ (r : Result ℕ _). unless-refused r (with-job b j)) a))
             (one-line-on bytes (lines-text b) fs (job-fields j) (rejoined line-end ps) (lines-text (with-job b j)) x letter-J (e .0) f h (lines-text-job b j (u .1)))
         | Err d ↦ λ a. fault x _ e (i .line-is, inl (j, rw (f, h), subst Five-digits q (s .2), u .1, a))
@@ -95,10 +98,10 @@ module _ (bytes : List ℕ) (ps : Parts) (at : Progress) (b : Entries) (i : Stan
       (λ ill. fault x _ e (i .line-is, inr (inl f, ill)))
       (λ ns s.
       let l = link-from ns in
-      let q : ns ≡ link-fields l = three-numbers ns (s .1) in
+      let q : ns ≡ link-fields l = three-places ns (s .1) in
       let h : fs ≡ spaced (link-fields l) = s .0 ∙ ap spaced q in
       elim (link-answer b l) as (λ v. link-answer b l ≡ v → Goes-on (past-link at (length fs)) (or-refused (at .line) (unless-refused v (with-link b l)))) [
-        | Ok k ↦ λ a. go (past-link at (length fs)) (with-link b l) (stands-link at b l (length fs) i (link-ok b l k a .0))
+        | Ok k ↦ λ a. go (past-link at (length fs)) (with-link b l) (stands-link at b l (length fs) i (link-sound b l (i .sound) a))
             (enterable-link b l (with-link b l) t (ap (λ (r : Result (Unit {0}) _). unless-refused r (with-link b l)) a))
             (one-line-on bytes (lines-text b) fs (link-fields l) (rejoined line-end ps) (lines-text (with-link b l)) x letter-L (e .0) f h (lines-text-link b l))
         | Err d ↦ λ a. fault x _ e (i .line-is, inr (l, rw (f, h), subst Five-digits q (s .2), a))
@@ -130,7 +133,7 @@ walk (next (x ∷ fs) ps) bytes w at b i t e =
 
 -- the reader starts after no lines
 pub stands-at-start : Stands start no-entries
-stands-at-start = record { line-is = refl; not-ended = refl; first-link = inl (refl, refl, refl); few-jobs = omega arith; few-links = omega arith }
+stands-at-start = record { line-is = refl; not-ended = refl; first-link = inl (refl, refl, refl); sound = none-sound }
 
 pub read-lines-comes-to : (bytes : List ℕ) → Comes-to bytes (read-lines start no-entries (split line-end bytes))
 read-lines-comes-to bytes = walk (split line-end bytes) bytes (split-without line-end bytes) start no-entries stands-at-start refl (sym (rejoined-split line-end bytes))

@@ -10,12 +10,14 @@ use Rattle.sheet.specs.declared.records.Link.{Link}
 use Rattle.sheet.specs.declared.refusal.Refusal.{Refusal}
 use Rattle.sheet.specs.Entries.{Entries}
 use Rattle.sheet.specs.Entering.{enter-answer, link-answer}
+use Rattle.text.specs.Bytes.{line-end}
+use Rattle.text.specs.Splitting.{Without}
+use Rattle.text.specs.Spaced.{spaced, All-below}
 use Rattle.slip.specs.declared.fault.Fault.{Fault}
 use Rattle.slip.specs.declared.fault.Fault.the-variants.{TooLong, Unfinished, BadLetter, BadFields, UntrueTrailer, Refused}
-use Rattle.slip.specs.Format.{longest-slip, line-end, letter-J, letter-L, letter-E}
-use Rattle.slip.specs.Splitting.{Without}
+use Rattle.slip.specs.Format.{longest-slip, letter-J, letter-L, letter-E}
 use Rattle.slip.specs.Adding.{Enterable}
-use Rattle.slip.specs.Texts.{spaced, job-fields, link-fields, jobs-text, links-text, trailer-fields, text}
+use Rattle.slip.specs.Texts.{job-fields, link-fields, jobs-text, links-text, trailer-fields, text}
 
 -- the job lines and link lines, and how many they are
 abbrev pub lines-text : Entries → List ℕ
@@ -26,8 +28,7 @@ line-count b = length (b .jobs) + length (b .links)
 
 -- at most five digits each
 abbrev pub Five-digits : List ℕ → Type 0
-Five-digits [] = Unit {0}
-Five-digits (n ∷ ns) = (n < 100000) × Five-digits ns
+Five-digits ns = All-below 100000 ns
 
 -- these are not n numbers as they are written
 abbrev pub Ill-written : ℕ → List ℕ → Type 0

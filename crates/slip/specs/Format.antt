@@ -1,15 +1,13 @@
--- The bound on a slip's length, and the bytes that have a meaning in it.
+-- The bounds of a slip, and the letters that begin its lines.
 use Prim.Native.Nat.{ℕ}
 
--- in bytes
+-- how many bytes a slip has
 abbrev pub longest-slip : ℕ
 longest-slip = 4096
 
-abbrev pub line-end : ℕ
-line-end = 10
-
-abbrev pub space : ℕ
-space = 32
+-- how many digits a number has
+abbrev pub most-digits : ℕ
+most-digits = 5
 
 abbrev pub letter-J : ℕ
 letter-J = 74

@@ -1,8 +1,6 @@
 -- What the contracts of the slip reader cite.
 pub mod Format
 pub mod Faults
-pub mod Splitting
-pub mod Numbers
 pub mod Fields
 pub mod Adding
 pub mod Reading

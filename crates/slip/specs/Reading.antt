@@ -13,13 +13,14 @@ use Rattle.sheet.specs.declared.records.Job.{Job}
 use Rattle.sheet.specs.declared.records.Link.{Link}
 use Rattle.sheet.specs.declared.refusal.Refusal.{Refusal}
 use Rattle.sheet.specs.Entries.{Entries, no-entries, job-of, link-of}
+use Rattle.text.specs.Bytes.{line-end}
+use Rattle.text.specs.Splitting.{Parts, last, next, split}
 use Rattle.slip.specs.declared.fault.Fault.{Fault}
 use Rattle.slip.specs.declared.fault.Fault.the-variants.{TooLong, Unfinished, BadLetter, BadFields, UntrueTrailer, Refused}
 use Rattle.slip.specs.declared.kind.Kind.{Kind}
 use Rattle.slip.specs.declared.kind.Kind.the-variants.{JobLine, LinkLine, Trailer}
 use Rattle.slip.specs.declared.line.Progress.{Progress}
-use Rattle.slip.specs.Format.{longest-slip, line-end, letter-J, letter-L, letter-E}
-use Rattle.slip.specs.Splitting.{Parts, last, next, split}
+use Rattle.slip.specs.Format.{longest-slip, letter-J, letter-L, letter-E}
 use Rattle.slip.specs.Fields.{fields}
 use Rattle.slip.specs.Adding.{then, add-job, add-link}
 

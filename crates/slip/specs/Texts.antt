@@ -1,19 +1,16 @@
 -- The text of a slip: which bytes tell these jobs and links.
-use Prim.Native.Nat.{ℕ, _≤_, _<_}
+use Prim.Native.Nat.{ℕ, _≤_}
 use mathlib.Core.Path.{_≡_}
 use mathlib.Core.List.{List, [], _∷_, _++_}
 use lib.ListN.{length}
 use Rattle.std.specs.shelf.Lists.{joined}
-use Rattle.std.specs.Written.{decimal}
 use Rattle.sheet.specs.declared.records.Job.{Job}
 use Rattle.sheet.specs.declared.records.Link.{Link}
 use Rattle.sheet.specs.Entries.{Entries}
-use Rattle.slip.specs.Format.{longest-slip, line-end, space, letter-J, letter-L, letter-E}
+use Rattle.text.specs.Bytes.{line-end}
+use Rattle.text.specs.Spaced.{spaced}
+use Rattle.slip.specs.Format.{longest-slip, letter-J, letter-L, letter-E}
 use Rattle.slip.specs.Adding.{Enterable}
-
--- a space and the number in decimal, for each of the numbers
-abbrev pub spaced : List ℕ → List ℕ
-spaced ns = joined (λ n. space ∷ decimal n) ns
 
 abbrev pub line-text : ℕ → List ℕ → List ℕ
 line-text letter ns = letter ∷ (spaced ns ++ (line-end ∷ []))

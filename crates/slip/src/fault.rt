@@ -5,7 +5,7 @@ use sheet::refusal::Refusal;
 use sheet::refusal::RefusalDebug;
 use sheet::refusal::RefusalPartialEq;
 
-/// The faults, each with its line from 1.
+/// The faults, with the line from 1 that has them.
 #[derive(Clone, Copy, PartialEq, Eq, Debug)]
 pub enum Fault {
     /// More bytes than a slip may have.

@@ -3,6 +3,4 @@ pub mod fault;
 mod field;
 mod kind;
 mod line;
-mod number;
 pub mod reader;
-mod split;

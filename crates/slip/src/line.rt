@@ -5,7 +5,7 @@ ghost use lib.ListN.{length};
 ghost use Rattle.sheet.specs.Sheets.{entries};
 ghost use Rattle.slip.specs.Format.{longest-slip};
 ghost use Rattle.slip.specs.Adding.{unless-refused};
-ghost use Rattle.slip.specs.Reading.{with-entries, read-job, read-link, read-trailer, read-kind, read-line};
+ghost use Rattle.slip.specs.Reading.{with-entries, read-job, read-link, true-figures, read-trailer, read-kind, read-line};
 use crate::fault::Fault;
 use crate::field::four_fields;
 use crate::field::three_fields;
@@ -54,18 +54,24 @@ fn link_line(sheet: &mut Sheet, line: usize, text: &[u8]) -> Result<(), Fault>
     }
 }
 
-/// The trailer, by what follows its letter: the counts, and the place where the job lines end.
+/// Whether the trailer's figures are the counts of jobs and links, and the place where the job lines end.
+fn true_figures(sheet: &Sheet, place: usize, figures: [u32; 3]) -> bool
+    ensures { λ r. ⌜ r ≡ true-figures (entries (now (sheet .entry))) place figures ⌝ }
+{
+    let [jobs, links, told] = figures;
+    jobs as usize == sheet.jobs().len()
+        && links as usize == sheet.links().len()
+        && told as usize == place
+}
+
+/// The trailer, by what follows its letter.
 fn trailer_line(sheet: &Sheet, line: usize, place: usize, text: &[u8]) -> Result<(), Fault>
     ensures { λ r. ⌜ unless-refused r (entries (now (sheet .entry))) ≡ read-trailer line (entries (now (sheet .entry))) place (now (text .entry)) ⌝ }
 {
-    let Some(fields) = three_fields(text) else {
+    let Some(figures) = three_fields(text) else {
         return Err(Fault::BadFields(line));
     };
-    let [jobs, links, told] = fields;
-    if jobs as usize == sheet.jobs().len()
-        && links as usize == sheet.links().len()
-        && told as usize == place
-    {
+    if true_figures(sheet, place, figures) {
         Ok(())
     } else {
         Err(Fault::UntrueTrailer(line))

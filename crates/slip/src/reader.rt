@@ -3,16 +3,17 @@ ghost use mathlib.Core.Path.{_≡_};
 ghost use Prim.Native.Nat.{_≤_};
 ghost use lib.ListN.{length};
 ghost use Rattle.sheet.specs.Sheets.{entries};
-ghost use Rattle.slip.specs.Format.{longest-slip, line-end};
-ghost use Rattle.slip.specs.Splitting.{split};
+ghost use Rattle.text.specs.Bytes.{line-end};
+ghost use Rattle.text.specs.Splitting.{split};
+ghost use Rattle.slip.specs.Format.{longest-slip};
 ghost use Rattle.slip.specs.Adding.{unless-refused};
 ghost use Rattle.slip.specs.Reading.{start, read-lines, read, left-entries};
 ghost use Rattle.slip.specs.Laws.{Reader-law};
 use crate::fault::Fault;
 use crate::line::Progress;
 use crate::line::read_line;
-use crate::split::split_at;
 use sheet::table::Sheet;
+use text::split::split_at;
 
 /// How many bytes a slip has at most.
 pub const MAX_SLIP: usize = 4_096;

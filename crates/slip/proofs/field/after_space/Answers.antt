@@ -1,6 +1,6 @@
 -- The fields stand after the first space.
 use native.Mathlib.Omega.{arith}
-use Rattle.slip.proofs.Fields.{space-first}
+use Rattle.slip.proofs.Spelling.{space-first}
 use Rattle.slip.proofs.field.after_space.Needs as need
 
 pub returns : need.returns

@@ -2,8 +2,8 @@
 use mathlib.Core.Path.{_∙_}
 use native.Mathlib.Omega.{arith}
 use Rattle.sheet.specs.Sheets.{entries}
-use Rattle.slip.specs.Format.{line-end}
-use Rattle.slip.specs.Splitting.{split}
+use Rattle.text.specs.Bytes.{line-end}
+use Rattle.text.specs.Splitting.{split}
 use Rattle.slip.proofs.Steps.{line-moves, line-done}
 use Rattle.slip.proofs.reader.read_lines.Needs as need
 

@@ -3,8 +3,9 @@ use Prim.Native.Nat.{_+_, _≤_}
 use mathlib.Core.Path.{_≡_}
 use lib.ListN.{length}
 use Rattle.sheet.specs.Sheets.{entries}
-use Rattle.slip.specs.Format.{longest-slip, line-end}
-use Rattle.slip.specs.Splitting.{split}
+use Rattle.text.specs.Bytes.{line-end}
+use Rattle.slip.specs.Format.{longest-slip}
+use Rattle.text.specs.Splitting.{split}
 use Rattle.slip.specs.Reading.{read-lines}
 use Rattle.slip.proofs.reader.read_lines.Given as given
 

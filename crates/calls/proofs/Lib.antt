@@ -1,0 +1,3 @@
+-- Lemmas on lists of calls.
+pub mod Owing
+pub mod Keeping

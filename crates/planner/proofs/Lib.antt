@@ -1,0 +1,3 @@
+-- Lemmas of the planner.
+pub mod Narrowed
+pub mod Reading
