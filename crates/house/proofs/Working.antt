@@ -41,25 +41,28 @@ to-workable e t s f =
 
 pub from-workable : (e : Entries) (t : List ℕ) → Workable e t → Fits (house-admits e) e t
 from-workable e t w =
-    let n : length (entered-windows e) ≡ length (e .jobs) = entered-count e in
-    (record {
-       count = w .one-each ∙ sym n;
-       low = λ k l. let h : k < length (e .jobs) = omega arith in subst (λ (v : Window). v .lo ≤ getD t k 0) (sym (entered-at e k h)) (w .in-window k h .0);
-       high = λ k l.
-           let h : k < length (e .jobs) = omega arith in
-           let due = w .in-window k h .1 in
-           subst (λ (v : Window). getD t k 0 ≤ v .hi) (sym (entered-at e k h)) (omega arith);
-     },
-     ((λ i h. omega (arith, w .linked i h)), (w .apart, (w .apart, w .apart))))
+    let n : length (entered-windows e) ≡ length (e .jobs) = entered-count e in (
+      record {
+        count = w .one-each ∙ sym n;
+        low = λ k l. let h : k < length (e .jobs) = omega arith in subst (λ (v : Window). v .lo ≤ getD t k 0) (sym (entered-at e k h)) (w .in-window k h .0);
+        high = λ k l.
+            let h : k < length (e .jobs) = omega arith in
+            let due = w .in-window k h .1 in
+            subst (λ (v : Window). getD t k 0 ≤ v .hi) (sym (entered-at e k h)) (omega arith);
+      },
+      ((λ i h. omega (arith, w .linked i h)), (w .apart, (w .apart, w .apart))),
+    )
 
 pub halls-words : (bytes : List ℕ) (g room : ℕ) (u : Told) → Owes house-admits bytes g room u → In-the-halls-words bytes g room u
 halls-words bytes g room (unplanned (Faulty f)) o = o
 halls-words bytes g room (unplanned (Refused r)) o = o
 halls-words bytes g room (planned e x m) o =
-    let promise = o .2 in
-    (o .0, record {
-      yes = λ p t q. to-workable e t (o .1) (promise .one-fits p t q);
-      no = λ q t w. promise .none-fits q t (from-workable e t w);
-      open-yet = promise .spent;
-      within-grant = promise .granted-only;
-    })
+    let promise = o .2 in (
+      o .0,
+      record {
+        yes = λ p t q. to-workable e t (o .1) (promise .one-fits p t q);
+        no = λ q t w. promise .none-fits q t (from-workable e t w);
+        open-yet = promise .spent;
+        within-grant = promise .granted-only;
+      },
+    )
