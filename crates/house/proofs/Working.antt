@@ -57,8 +57,10 @@ pub halls-words : (bytes : List ℕ) (g room : ℕ) (u : Told) → Owes house-ad
 halls-words bytes g room (unplanned (Faulty f)) o = o
 halls-words bytes g room (unplanned (Refused r)) o = o
 halls-words bytes g room (planned e x m) o =
-    let promise = o .2 in (
+    let promise = o .3 in (
       o .0,
+      o .1,
+      o .2,
       record {
         yes = λ p t q. to-workable e t (o .1) (promise .one-fits p t q);
         no = λ q t w. promise .none-fits q t (from-workable e t w);

@@ -5,6 +5,7 @@ use mathlib.Core.Path.{_≡_}
 use Prim.Native.Nat.{ℕ, _+_, _≤_, _<_}
 use lib.ListN.{length, getD}
 use Rattle.sheet.specs.Entries.{Entries, job, link}
+use Rattle.sheet.specs.Sound.{Sound}
 use Rattle.slip.specs.Texts.{Slip-of}
 use Rattle.slip.specs.Faulty.{Faulty as Fault-of}
 use Rattle.search.specs.declared.decision.Decision.{Decision}
@@ -41,4 +42,4 @@ pub record Says (e : Entries) (g m : ℕ) (x : State) : Type 0 where
 abbrev pub In-the-halls-words : List ℕ → ℕ → ℕ → Told → Type 0
 In-the-halls-words bytes g room (unplanned (Faulty f)) = Fault-of bytes f
 In-the-halls-words bytes g room (unplanned (Refused r)) = (e : Entries) × Slip-of bytes e × Refused-for e g room r
-In-the-halls-words bytes g room (planned e x m) = Slip-of bytes e × Says e g m x
+In-the-halls-words bytes g room (planned e x m) = Slip-of bytes e × Sound e × (length (e .jobs) ≤ room) × Says e g m x

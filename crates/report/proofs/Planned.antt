@@ -2,7 +2,7 @@
 use mathlib.Core.Path.{_≡_, sym, ap, subst, _∙_}
 use mathlib.Core.Bool.{Bool, false, _||_}
 use mathlib.Core.List.{List, []}
-use Prim.Native.Nat.{ℕ, _+_}
+use Prim.Native.Nat.{ℕ, _+_, _≤_}
 use native.Mathlib.Nat.{zero-add}
 use lib.Dec.{eqb, ltb}
 use lib.ListN.{length}
@@ -51,10 +51,11 @@ module _ {P : Type 0} (cut : P → Entries → List Window → Cut) {p q : P} {e
       ∙ ap (λ (z : Entries). planned z (after-looks (one-look (cut p z) z) g (opened [])) (looks-made (one-look (cut p z) z) g (opened []))) (a .same-sheet)
       ∙ sym (cond-false _ _ _ (a .in-range) ∙ cond-false _ _ _ fits)
 
-  pub planned-owes : (admits : P → Entries → List ℕ → Type 0) (room : ℕ) → Sound e → Promise (admits q d) d (0 + g) (0 + m) x → Owes-sheet (admits p) e g room (planned c x m)
-  planned-owes admits room sound promise =
+  pub planned-owes : (admits : P → Entries → List ℕ → Type 0) (room : ℕ) → Sound e → length (e .jobs) ≤ room → Promise (admits q d) d (0 + g) (0 + m) x → Owes-sheet (admits p) e g room (planned c x m)
+  planned-owes admits room sound fits promise =
       let here : Promise (admits q d) d g m x = subst (λ (n : ℕ). Promise (admits q d) d g n x) (zero-add m) (subst (λ (n : ℕ). Promise (admits q d) d n (0 + m) x) (zero-add g) promise) in (
         a .kept-sheet ∙ a .same-sheet,
         sound,
+        fits,
         subst (λ (z : Entries). Promise (admits p z) z g m x) (a .same-sheet) (subst (λ (r : P). Promise (admits r d) d g m x) (a .same-pile) here),
       )

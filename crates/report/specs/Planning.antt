@@ -60,10 +60,10 @@ Refused-for e g room r =
 abbrev pub Owes-sheet : (Entries → List ℕ → Type 0) → Entries → ℕ → ℕ → Told → Type 0
 Owes-sheet admits e g room (unplanned (Faulty f)) = ⊥
 Owes-sheet admits e g room (unplanned (Refused r)) = Refused-for e g room r
-Owes-sheet admits e g room (planned d x m) = (d ≡ e) × Sound e × Promise (admits e) e g m x
+Owes-sheet admits e g room (planned d x m) = (d ≡ e) × Sound e × (length (e .jobs) ≤ room) × Promise (admits e) e g m x
 
 -- and planning a slip
 abbrev pub Owes : (Entries → List ℕ → Type 0) → List ℕ → ℕ → ℕ → Told → Type 0
 Owes admits bytes g room (unplanned (Faulty f)) = Fault-of bytes f
 Owes admits bytes g room (unplanned (Refused r)) = (e : Entries) × Slip-of bytes e × Refused-for e g room r
-Owes admits bytes g room (planned e x m) = Slip-of bytes e × Sound e × Promise (admits e) e g m x
+Owes admits bytes g room (planned e x m) = Slip-of bytes e × Sound e × (length (e .jobs) ≤ room) × Promise (admits e) e g m x

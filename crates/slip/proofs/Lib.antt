@@ -8,3 +8,4 @@ pub mod Cases
 pub mod Walk
 pub mod Telling
 pub mod Law
+pub mod Bounded

@@ -35,5 +35,5 @@ returns-in-Ok g c =
     let a = advanced g c in
     record {
       told = planned-told (g .P·Rule .cut) a (c .args .room) (search needs);
-      owes = planned-owes (g .P·Rule .cut) a (g .P·Rule .admits) (c .args .room) (sheet-sound (c .args .draft .sheet)) (c .in-Ok .ensures tt .promise [] (c .close-search .ensures .state));
+      owes = planned-owes (g .P·Rule .cut) a (g .P·Rule .admits) (c .args .room) (sheet-sound (c .args .draft .sheet)) (search needs) (c .in-Ok .ensures tt .promise [] (c .close-search .ensures .state));
     }

@@ -1,0 +1,2 @@
+-- Lemmas of the call for C.
+pub mod Encoding
