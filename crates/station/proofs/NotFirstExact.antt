@@ -116,7 +116,7 @@ module _ (e : ℕ) (U : List Task) (q : ℕ) where
 
   from-le : (x y : ℕ) → x ≤ y → (e ≤ ect (at U q) → slack e (drop (suc q) U) < ect (at U q) + most-work → e ≤ y) → (slack e U < front e (at U q) + most-work → e ≤ y) → raised-from e U q x ≤ y
   from-le x y h f g =
-      let a : first-pass x ≤ y = cond-both by-sooner (max x e) x (λ z. z ≤ y) (λ t. let p = and-parts _ _ t in omega (arith, f (leb-true _ _ (p .0)) (ltb-true _ _ (p .1)))) (λ t. h) in
+      let a : first-pass x ≤ y = cond-both by-sooner (max x e) x (λ z. z ≤ y) (λ t. let p = and-parts (complete-from e (at U q)) (ltb (slack e (drop (suc q) U)) (ect (at U q) + most-work)) t in omega (arith, f (leb-true _ _ (p .0)) (ltb-true _ _ (p .1)))) (λ t. h) in
       cond-both by-any (max (first-pass x) e) (first-pass x) (λ z. z ≤ y) (λ t. omega (arith, g (ltb-true _ _ t))) (λ t. a)
 
 module _ (U : List Task) (q : ℕ) where

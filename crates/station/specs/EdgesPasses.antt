@@ -6,7 +6,7 @@ use lib.Dec.{ltb, leb}
 use lib.ListN.{drop}
 use Rattle.station.specs.declared.task.Task.{Task}
 use Rattle.station.specs.Tasks.{at}
-use Rattle.station.specs.Sets.{total, any}
+use Rattle.station.specs.Sets.{total}
 
 -- the work of those of which the test holds
 abbrev pub work-of : (Task → Bool) → List Task → ℕ

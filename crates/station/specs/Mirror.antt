@@ -1,5 +1,5 @@
 -- Time the other way round.
-use Prim.Native.Nat.{ℕ, _-_}
+use Prim.Native.Nat.{_-_}
 use Rattle.station.specs.declared.task.Task.{Task}
 use Rattle.station.specs.Limits.{horizon}
 

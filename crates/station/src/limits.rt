@@ -9,5 +9,5 @@ pub const LONGEST: u32 = 2_000;
 /// The most tasks at a station.
 pub const MOST_TASKS: usize = 48;
 
-/// The most work at a station.
-pub const MOST_WORK: u32 = 96_000;
+/// The most work at a station: that of as many tasks as there may be, each as long as it may be.
+pub const MOST_WORK: u32 = 48 * LONGEST;

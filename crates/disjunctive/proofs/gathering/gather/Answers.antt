@@ -1,9 +1,8 @@
 -- What is left to show of `gather`.
 use mathlib.Core.Path.{_≡_, ap, _∙_}
-use Prim.Native.Nat.{ℕ, _<_}
+use Prim.Native.Nat.{ℕ}
 use native.Mathlib.Omega.{arith}
 use lib.ListN.{length}
-use Rattle.station.specs.Limits.{most-tasks}
 use Rattle.rule.proofs.Forming.{formed-fact}
 use Rattle.disjunctive.specs.Gathering.{gathered}
 use Rattle.disjunctive.proofs.Gathered.{gathering-none, gathering-yes, gathering-no, gathering-as, gathering-fits, gathered-short}

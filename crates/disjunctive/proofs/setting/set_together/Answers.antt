@@ -1,10 +1,9 @@
 -- What is left to show of `set_together`.
 use mathlib.Core.Path.{_≡_, refl, sym, ap, subst, _∙_}
-use mathlib.Core.List.{List}
 use mathlib.Core.Bool.{true}
 use Prim.Native.Nat.{ℕ, _-_, _<_}
 use native.Mathlib.Omega.{arith}
-use lib.ListN.{length, getD, take, length-set}
+use lib.ListN.{length, take, length-set}
 use Rattle.std.proofs.shelf.Tests.{cond-true}
 use Rattle.sheet.specs.declared.records.Window.{Window}
 use Rattle.rule.specs.Cuts.{Cut, dead, live, verdict-of, left}

@@ -1,7 +1,6 @@
 -- What is left to show of `narrow_jobs`.
 use mathlib.Core.Path.{_≡_, refl, sym, ap, _∙_}
 use Prim.Native.Nat.{ℕ, _+_, _-_}
-use native.Mathlib.Omega.{arith}
 use lib.ListN.{length}
 use Rattle.std.proofs.shelf.Tests.{cond-true, cond-false}
 use Rattle.rule.specs.Cuts.{Cut, dead, verdict-of, left}
@@ -9,7 +8,7 @@ use Rattle.rule.specs.Bounds.{together}
 use Rattle.rule.proofs.Forming.{formed-fact}
 use Rattle.station.specs.Limits.{horizon}
 use Rattle.disjunctive.specs.Gathering.{span, tasks-at}
-use Rattle.disjunctive.specs.StationCuts.{any-below, stations, among, station-cut}
+use Rattle.disjunctive.specs.StationCuts.{any-below, stations, station-cut}
 use Rattle.disjunctive.proofs.Running.{low-of, limit-of, limit-is, together-same}
 use Rattle.disjunctive.proofs.stations.narrow_jobs.Needs as need
 

@@ -1,10 +1,9 @@
 -- The jobs of a sheet are such as the kernel's run wants.
-use mathlib.Core.Path.{sym, ap, subst, _∙_}
+use mathlib.Core.Path.{sym, ap, subst, _∙_, _≡_}
 use mathlib.Core.Bool.{true}
 use mathlib.Core.List.{List}
 use Prim.Native.Nat.{_≤_}
 use lib.ListN.{length}
-use mathlib.Core.Path.{_≡_}
 use Rattle.sheet.specs.declared.records.Job.{Job}
 use Rattle.sheet.specs.Sound.{All-entered}
 use Rattle.sheet.proofs.Soundness.{sheet-sound}

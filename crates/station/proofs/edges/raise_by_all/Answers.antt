@@ -8,8 +8,7 @@ use borrow.Author.Count.{below-more}
 use lib.ListN.{length}
 use Rattle.std.proofs.shelf.Elements.{all-from-getD}
 use Rattle.std.proofs.shelf.Tests.{both-ways}
-use Rattle.station.specs.Tasks.{no-task}
-use Rattle.station.specs.Tasks.{at}
+use Rattle.station.specs.Tasks.{no-task, at}
 use Rattle.station.specs.EdgesPasses.{raised-by-both, raised-by-all, passes-end}
 use Rattle.station.proofs.Members.{in-at}
 use Rattle.station.proofs.Bounds.{any-in, any-none}

@@ -1,6 +1,5 @@
 -- What is left to show of `raise_by_job`.
 use mathlib.Core.Path.{refl, _∙_}
-use Prim.Native.Nat.{_<_}
 use native.Mathlib.Omega.{arith}
 use lib.ListN.{length, length-take}
 use Rattle.std.proofs.shelf.Sorted.{all-shuffled, length-shuffled}

@@ -1,6 +1,4 @@
 -- What the loop of `reverse_time` keeps.
-use mathlib.Core.Path.{_≡_}
-use lib.ListN.{length}
 use Rattle.station.specs.Tasks.{no-task}
 use Rattle.station.specs.Mirror.{mirror}
 use Rattle.station.proofs.Rewriting.{Up-to}

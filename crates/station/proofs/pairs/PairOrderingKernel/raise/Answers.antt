@@ -1,6 +1,5 @@
 -- What is left to show of `raise`.
 use native.Mathlib.Omega.{arith}
-use borrow.Author.Count.{below-more}
 use Rattle.station.proofs.pairs.PairOrderingKernel.raise.Needs as need
 
 pub loop-q-holds : need.loop-q-holds
