@@ -270,6 +270,9 @@ fn full(random: &mut Random) -> Sheet {
 /// A slip with one job or link that the draft refuses, or with one more than it holds; the trailer is
 /// that of the slip as written, and so true.
 fn with_a_wrong_entry(random: &mut Random, mut sheet: Sheet) -> Vec<u8> {
+    if random.once_in(4) {
+        fill_up(random, &mut sheet);
+    }
     for _ in 0..random.between(1, 2) {
         if random.once_in(2) || sheet.jobs.is_empty() {
             let wrong = wrong_job(random);
@@ -280,6 +283,18 @@ fn with_a_wrong_entry(random: &mut Random, mut sheet: Sheet) -> Vec<u8> {
         }
     }
     text(&sheet)
+}
+
+/// Fills a sheet up to 48 jobs, or also up to 96 links, or to one or two less.
+fn fill_up(random: &mut Random, sheet: &mut Sheet) {
+    let jobs = 48 - random.one_of(&[0, 0, 1, 2]);
+    while sheet.jobs.len() < jobs {
+        sheet.jobs.push(job(random.up_to(7), 1, random.up_to(9), 9));
+    }
+    let links = random.one_of(&[0, 94, 95, 96, 96, 96]);
+    while sheet.links.len() < links {
+        add_links_upwards(random, sheet, 1, 9);
+    }
 }
 
 fn put_in<T>(random: &mut Random, list: &mut Vec<T>, entry: T) {
@@ -300,7 +315,7 @@ fn wrong_job(random: &mut Random) -> Job {
 /// A link with one or more figures at a limit or past it, or one that is there already.
 fn wrong_link(random: &mut Random, sheet: &Sheet) -> Link {
     let jobs = sheet.jobs.len() as u32;
-    let job = [0, jobs / 2, jobs - 1, jobs, 48, 99_999];
+    let job = [0, 1, jobs / 3, jobs / 2, jobs - 1, random.one_of(&[jobs - 1, jobs, 48, 99_999])];
     let mut wrong =
         Link { from: random.one_of(&job), to: random.one_of(&job), wait: random.one_of(&[0, 1, 2_000, 2_001, 99_999]) };
     if !sheet.links.is_empty() && random.once_in(3) {
@@ -338,7 +353,7 @@ fn damaged(random: &mut Random, mut slip: Vec<u8>) -> Vec<u8> {
 
 fn damage(random: &mut Random, slip: &mut Vec<u8>) {
     const TELLING: &[u8] = b"JLE 0129\n\r\t-+.jle\0\x0b\x20\x7f\x80\xb2\xff";
-    match random.up_to(15) {
+    match random.up_to(16) {
         0 if !slip.is_empty() => {
             let place = random.place(slip.len());
             slip[place] ^= 1 << random.up_to(7);
@@ -368,6 +383,7 @@ fn damage(random: &mut Random, slip: &mut Vec<u8>) {
         12 => lengthen(random, slip),
         13 => slip.extend(random.one_of(&[&b"\n"[..], b"E 0 0 0\n", b"J", b" ", b"J 0 1 0 9\n", b"\r\n"])),
         14 => grow_a_number(random, slip),
+        15 => field_more_or_less(random, slip),
         _ => *slip = (0..random.up_to(30)).map(|_| random.one_of(TELLING)).collect(),
     }
 }
@@ -385,6 +401,18 @@ fn grow_a_number(random: &mut Random, slip: &mut Vec<u8>) {
         for _ in 0..random.between(1, 6) {
             slip.insert(place + 1, b'0' + random.up_to(9) as u8);
         }
+    }
+}
+
+/// Takes a field out of some line, or puts one in.
+fn field_more_or_less(random: &mut Random, slip: &mut Vec<u8>) {
+    let Some(place) = some_place(random, slip, |byte| byte == b' ') else { return };
+    let length = slip[place + 1..].iter().take_while(|byte| byte.is_ascii_digit()).count();
+    let field: Vec<u8> = slip[place..=place + length].to_vec();
+    if random.once_in(2) {
+        slip.drain(place..=place + length);
+    } else {
+        slip.splice(place..place, field);
     }
 }
 

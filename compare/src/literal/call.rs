@@ -51,3 +51,23 @@ fn settle(
 fn fault_answer(fault: Fault) -> u32 {
     fault.number() + 100 * fault.line + 1_000_000 * fault.inside()
 }
+
+/// How large the search of a slip is, where the slip is not faulty.
+pub struct Sizes {
+    /// How many jobs the fullest station has.
+    pub largest_station: usize,
+    /// How many sets of jobs there are, over all stations.
+    pub sets: u64,
+}
+
+/// How large the search of a slip is; nothing where it is faulty.
+pub fn sizes(bytes: &[u8]) -> Option<Sizes> {
+    let mut draft = Draft::new(house_pile());
+    slip::read(&mut draft, bytes).ok()?;
+    let mut counts = [0; 8];
+    for job in &draft.sheet.jobs {
+        counts[job.station as usize] += 1;
+    }
+    let largest_station = counts.into_iter().max().unwrap_or(0);
+    Some(Sizes { largest_station, sets: counts.iter().map(|&count| 1 << count).sum() })
+}

@@ -3,7 +3,7 @@
 //! sheet.rs has the sheet and its calls, slip.rs the reader, station.rs the three rules at one station
 //! in about n² steps, search.rs the search. There are no proofs here: tests hold it against literal/.
 //!
-//! The file uses nothing of the literal planner, so that it can also be built alone (see standin/).
+//! The folder uses nothing of the literal planner, so that it can also be built alone (see standin/).
 
 pub mod search;
 pub mod sheet;
