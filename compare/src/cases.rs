@@ -35,8 +35,8 @@ fn any_looks(random: &mut Random) -> u32 {
         0 => 0,
         1 => 1_000_001,
         2 => 1_000_001 + random.up_to(u32::MAX - 1_000_001),
-        3..=5 => random.between(200, 2_000),
-        6..=60 => random.between(1, 40),
+        3..=14 => random.between(200, 2_000),
+        15..=60 => random.between(1, 40),
         _ => random.between(1, 200),
     }
 }
@@ -54,14 +54,16 @@ fn any_buffer(random: &mut Random, jobs: usize) -> usize {
 /// A sheet of some kind.
 pub fn any_sheet(random: &mut Random) -> Sheet {
     match random.up_to(99) {
-        0..=19 => tiny(random),
-        20..=44 => crowded(random),
-        45..=64 => around_a_timetable(random),
-        65..=82 => job_shop(random),
-        83..=88 => with_a_circle(random),
-        89..=92 => of_great_numbers(random),
-        93..=95 => large(random),
-        96..=98 => large_around_a_timetable(random),
+        0..=14 => tiny(random),
+        15..=32 => crowded(random),
+        33..=46 => around_a_timetable(random),
+        47..=66 => packing(random),
+        67..=82 => job_shop(random),
+        83..=87 => with_a_circle(random),
+        88..=91 => of_great_numbers(random),
+        92..=94 => large(random),
+        95..=96 => large_around_a_timetable(random),
+        97..=98 => large_packing(random),
         _ => full(random),
     }
 }
@@ -128,7 +130,7 @@ fn crowded(random: &mut Random) -> Sheet {
 /// and mostly possible.
 fn around_a_timetable(random: &mut Random) -> Sheet {
     let stations = random.between(1, 3);
-    let count = random.between(2, if stations == 1 { 7 } else { 10 });
+    let count = random.between(2, if stations == 1 { 9 } else { 12 });
     let (longest, widest) = (random.one_of(&[3, 8, 20, 200]), random.one_of(&[1, 4, 10, 30, 300]));
     timetable_sheet(random, stations, count, longest, widest)
 }
@@ -182,24 +184,81 @@ fn link_in_time(random: &mut Random, sheet: &mut Sheet, starts: &[u32]) {
     }
 }
 
-/// Orders that pass the stations each in its own sequence, as in a job shop.
+/// Jobs to be packed into the gaps between fixed ones, mostly just too long for one more to fit into a gap:
+/// the rules seldom tell at once whether all can be packed, so that the search has to turn back, often to
+/// the very end.
+fn packing(random: &mut Random) -> Sheet {
+    let mut sheet = Sheet::default();
+    for station in 0..random.between(1, 2) {
+        let gaps = random.between(2, 3);
+        pack_station(random, &mut sheet, station, gaps, 7 - gaps);
+    }
+    if random.once_in(3) {
+        let links = random.between(1, 2);
+        add_links_upwards(random, &mut sheet, links, 2);
+    }
+    sheet
+}
+
+/// The same with more gaps and more jobs.
+fn large_packing(random: &mut Random) -> Sheet {
+    let mut sheet = Sheet::default();
+    for station in 0..random.between(1, 2) {
+        let gaps = random.between(4, 8);
+        pack_station(random, &mut sheet, station, gaps, 16);
+    }
+    sheet
+}
+
+/// Fixed jobs with equal gaps between them, and free jobs that together are no longer than the gaps.
+fn pack_station(random: &mut Random, sheet: &mut Sheet, station: u32, gaps: u32, free: u32) {
+    let (gap, wall) = (random.between(4, 14), random.between(1, 3));
+    let time = gaps * gap + (gaps - 1) * wall;
+    for k in 1..gaps {
+        sheet.jobs.push(job(station, wall, k * gap + (k - 1) * wall, 0));
+    }
+    let mut room = gaps * gap;
+    for _ in 0..free {
+        let any = random.between(1, gap);
+        let duration = random.one_of(&[gap / 2 + 1, gap / 2 + 1, gap / 3 + 1, gap / 2, any]);
+        if duration <= room {
+            room -= duration;
+            let late = if random.once_in(4) { random.up_to(3) } else { 0 };
+            let soon = if random.once_in(4) { random.up_to(3) } else { 0 };
+            let spread = (time - duration).saturating_sub(late + soon);
+            put_in(random, &mut sheet.jobs, job(station, duration, late, spread));
+        }
+    }
+}
+
+/// Orders that pass the stations each in its own sequence, as in a job shop, in little more time than the
+/// longest order or the busiest station needs.
 fn job_shop(random: &mut Random) -> Sheet {
     let mut sheet = Sheet::default();
-    let (orders, stations) = (random.between(1, 4), random.between(1, 4));
-    let longest = random.one_of(&[2, 5, 9]);
-    let time = longest * (orders + stations) * random.between(4, 12) / 10 + longest;
+    let (orders, stations) = (random.between(1, 5), random.between(1, 4));
+    let longest = random.one_of(&[2, 5, 9, 30]);
+    let mut busy = [0; 8];
+    let mut needed = 0;
     for _ in 0..orders {
         let first = sheet.jobs.len() as u32;
         let turn = random.up_to(stations - 1);
+        let mut length = 0;
         for k in 0..stations {
-            let station = if random.once_in(5) { random.up_to(stations - 1) } else { (k + turn) % stations };
+            let station = if random.once_in(3) { random.up_to(stations - 1) } else { (k + turn) % stations };
             let duration = random.between(1, longest);
-            sheet.jobs.push(job(station, duration, 0, time.saturating_sub(duration)));
+            let wait = if k > 0 && random.once_in(5) { random.up_to(3) } else { 0 };
+            sheet.jobs.push(job(station, duration, 0, 40_000));
             if k > 0 {
-                let wait = if random.once_in(4) { random.up_to(3) } else { 0 };
                 let _ = sheet.link(first + k - 1, first + k, wait);
             }
+            length += duration + wait;
+            busy[station as usize] += duration;
+            needed = needed.max(length).max(busy[station as usize]);
         }
+    }
+    let due = needed + random.up_to(needed / 3 + 1);
+    for job in &mut sheet.jobs {
+        job.due = due;
     }
     sheet
 }
@@ -243,7 +302,7 @@ fn large(random: &mut Random) -> Sheet {
     let mut sheet = Sheet::default();
     let (count, stations) = (random.between(15, 48), random.between(1, 8));
     let longest = random.one_of(&[5, 50, 500]);
-    let time = longest * count / stations * random.between(5, 12) / 10 + longest;
+    let time = longest * count / stations * random.between(7, 20) / 10 + longest;
     for _ in 0..count {
         let (duration, release) = (random.between(1, longest), random.up_to(time / 3));
         let spread = random.up_to(time.saturating_sub(release));

@@ -2,11 +2,15 @@
 
 use std::process::ExitCode;
 
-use comparison::{ft06, library, runner};
+use comparison::{bench, ft06, library, plan, runner};
 
 const USAGE: &str = "usage:
   compare compare [--cases N] [--seed S] [--only CASE] [--without-library]
   compare ft06 [--looks N] [--without-library]
+  compare plan [--literal] < SLIP
+  compare bench [--repetitions N] [--without-library]
+  compare bench-one --sheet NAME --planner library|fast-swift|fast-rounds|nothing [--calls N]
+  compare bench-sheets
 ";
 
 /// The program's exit status where a comparison failed.
@@ -45,6 +49,25 @@ fn run(words: &[String]) -> Result<bool, String> {
             let looks = options.number("--looks")?.unwrap_or(100_000);
             Ok(ft06::run(looks as u32, !options.has("--without-library")))
         }
+        "plan" => {
+            plan::run(options.has("--literal")).map_err(|error| error.to_string())?;
+            Ok(true)
+        }
+        "bench" => {
+            options.need_library()?;
+            let repetitions = options.number("--repetitions")?.unwrap_or(9);
+            Ok(bench::run(repetitions as u32, !options.has("--without-library")))
+        }
+        "bench-one" => {
+            let sheet = options.value("--sheet").ok_or("--sheet is missing")?;
+            let planner = options.value("--planner").ok_or("--planner is missing")?;
+            let calls = options.number("--calls")?.unwrap_or(1);
+            bench::run_one(sheet, planner, calls as u32).map(|()| true)
+        }
+        "bench-sheets" => {
+            bench::benches().iter().for_each(|bench| println!("{} {}", bench.name, bench.looks));
+            Ok(true)
+        }
         _ => Err(USAGE.into()),
     }
 }
@@ -55,8 +78,9 @@ struct Options<'a> {
 }
 
 impl<'a> Options<'a> {
-    const WITH_VALUE: [&'static str; 4] = ["--cases", "--seed", "--only", "--looks"];
-    const ALONE: [&'static str; 1] = ["--without-library"];
+    const WITH_VALUE: [&'static str; 8] =
+        ["--cases", "--seed", "--only", "--looks", "--repetitions", "--sheet", "--planner", "--calls"];
+    const ALONE: [&'static str; 2] = ["--without-library", "--literal"];
 
     fn of(words: &'a [String]) -> Result<Options<'a>, String> {
         let mut left = words.iter();

@@ -6,7 +6,6 @@ use std::time::Instant;
 
 use crate::cases::Case;
 use crate::fast::search::Pace;
-use crate::literal::call::Sizes;
 use crate::random::Random;
 use crate::{fast, library, literal};
 
@@ -19,10 +18,9 @@ pub struct Run {
     pub with_library: bool,
 }
 
-/// The literal planner goes through all sets of jobs, so it is asked only where stations are this small...
-const SMALL_STATION: usize = 7;
-/// ...and where there are not too many of them for the number of looks.
-const MOST_LITERAL_WORK: u64 = 400_000;
+/// The literal planner goes through all sets of jobs and all their parts. It is asked where these are no
+/// more than this, times the looks granted.
+const MOST_LITERAL_WORK: u64 = 3_000_000;
 
 /// The bytes around a buffer that no call may touch.
 const GUARD: usize = 32;
@@ -92,8 +90,8 @@ struct Tally {
     differences: u64,
     asked: BTreeMap<Planner, u64>,
     answers: BTreeMap<u32, u64>,
-    /// How many cases were settled after 1, 2 to 9, 10 to 99, and more looks.
-    settled: [u64; 4],
+    /// How many cases were found, and how many impossible, after 1, 2 to 9, 10 to 99, and more looks.
+    settled: [[u64; 4]; 2],
     looks: u64,
 }
 
@@ -175,16 +173,9 @@ fn same(looks: u32, reference: (Planner, &Reply), other: (Planner, Reply)) -> Re
 
 /// The literal planner where its brute force is bearable, else the fast one in the rounds of the definition.
 fn reference_for(case: &Case) -> Planner {
-    match literal::call::sizes(&case.slip) {
-        Some(sizes) if sizes.largest_station > SMALL_STATION => Planner::FastRounds,
-        Some(sizes) if literal_work(&sizes, case.looks) > MOST_LITERAL_WORK => Planner::FastRounds,
-        _ => Planner::Literal,
-    }
-}
-
-/// About how many sets the literal planner goes through in one round of each look.
-fn literal_work(sizes: &Sizes, looks: u32) -> u64 {
-    u64::from(looks.min(1_000)) * sizes.sets
+    let parts = literal::call::parts(&case.slip);
+    let work = u64::from(case.looks.min(1_000)).saturating_mul(parts);
+    if work > MOST_LITERAL_WORK { Planner::FastRounds } else { Planner::Literal }
 }
 
 impl Tally {
@@ -204,7 +195,7 @@ impl Tally {
         let looks = expected.looks.unwrap_or(0);
         self.looks += u64::from(looks);
         if expected.answer == 1 || expected.answer == 2 {
-            self.settled[rank_of(looks)] += 1;
+            self.settled[expected.answer as usize - 1][rank_of(looks)] += 1;
         }
     }
 
@@ -216,8 +207,9 @@ impl Tally {
         for (kind, count) in &self.answers {
             println!("  {}: {count}", name_of(*kind));
         }
-        let [one, few, tens, more] = self.settled;
-        println!("  settled after 1 look: {one}, 2 to 9: {few}, 10 to 99: {tens}, more: {more}");
+        for (word, [one, few, tens, more]) in ["found", "impossible"].into_iter().zip(self.settled) {
+            println!("  {word} after 1 look: {one}, 2 to 9: {few}, 10 to 99: {tens}, more: {more}");
+        }
         if !run.with_library {
             println!("without the library: only the literal and the fast planner were held against each other");
         }

@@ -2,9 +2,8 @@
 
 use crate::cases::any_sheet;
 use crate::fast;
-use crate::fast::search::{Layout, Outcome, Pace, Search, Windows};
-use crate::fast::sheet::STATIONS;
-use crate::fast::station::{Dead, Orders, StationRule};
+use crate::fast::search::{Layout, Outcome, Pace, Search, Windows, Workshop};
+use crate::fast::station::{Dead, StationRule};
 use crate::literal;
 use crate::literal::rules::{Cut, Edges, NotFirst, Pairs, Route, Rule, Window, house_pile};
 use crate::literal::sheet::Sheet;
@@ -26,10 +25,9 @@ fn fast_sheet(sheet: &Sheet) -> fast::sheet::Sheet {
 fn fast_cut(sheet: &Sheet, rule: Option<StationRule>) -> Cut {
     let layout = Layout::of(&fast_sheet(sheet));
     let mut windows = layout.entered();
-    let mut orders = std::array::from_fn::<_, STATIONS, _>(|_| Orders::new());
     let cut = match rule {
         None => layout.route_round(&mut windows),
-        Some(rule) => layout.cut_all(rule, &mut windows, &mut orders),
+        Some(rule) => layout.cut_all(rule, &mut windows, &mut Workshop::new()),
     };
     match cut {
         Err(Dead) => Cut::Dead,

@@ -7,7 +7,7 @@
 
 use super::LOOKS_AT_MOST;
 use super::sheet::{JOBS, LINKS, Refusal, STATIONS, Sheet};
-use super::station::{Dead, Orders, Station, StationRule};
+use super::station::{Dead, Desk, Orders, Station, StationRule};
 
 /// How the standstill is reached.
 #[derive(Clone, Copy, PartialEq, Eq, Debug)]
@@ -58,6 +58,19 @@ struct Bond {
     to: u8,
     ahead: i32,
     back: i32,
+}
+
+/// The orders of each station's jobs, and a desk: what the rules keep between looks. None of it has a
+/// say in what they find.
+pub struct Workshop {
+    orders: [Orders; STATIONS],
+    desk: Desk,
+}
+
+impl Workshop {
+    pub fn new() -> Workshop {
+        Workshop { orders: std::array::from_fn(|_| Orders::new()), desk: Desk::new() }
+    }
 }
 
 /// What of a sheet does not change during a search, laid out for speed.
@@ -238,13 +251,13 @@ impl Layout {
         station: usize,
         rule: StationRule,
         windows: &mut Windows,
-        orders: &mut Orders,
+        workshop: &mut Workshop,
     ) -> Result<bool, Dead> {
         let places = self.begin[station]..self.begin[station + 1];
         let p = &self.p[places.clone()];
         let est = &mut windows.est[places.clone()];
         let lct = &mut windows.lct[places];
-        Station { p, est, lct, orders }.cut(rule)
+        Station { p, est, lct, orders: &mut workshop.orders[station], desk: &mut workshop.desk }.cut(rule)
     }
 
     /// One rule at all stations; answers whether a window changed.
@@ -252,23 +265,23 @@ impl Layout {
         &self,
         rule: StationRule,
         windows: &mut Windows,
-        orders: &mut [Orders; STATIONS],
+        workshop: &mut Workshop,
     ) -> Result<bool, Dead> {
         let mut changed = false;
         for station in stations(self.shared) {
-            changed |= self.cut(station, rule, windows, &mut orders[station])?;
+            changed |= self.cut(station, rule, windows, workshop)?;
         }
         Ok(changed)
     }
 
     /// The standstill of the house pile by its rounds.
-    fn settle_in_rounds(&self, windows: &mut Windows, orders: &mut [Orders; STATIONS]) -> Result<(), Dead> {
+    fn settle_in_rounds(&self, windows: &mut Windows, workshop: &mut Workshop) -> Result<(), Dead> {
         loop {
             let mut changed = self.route_round(windows)?;
             loop {
-                let pairs = self.cut_all(StationRule::Pairs, windows, orders)?;
-                let edges = self.cut_all(StationRule::Edges, windows, orders)?;
-                let not_first = self.cut_all(StationRule::NotFirst, windows, orders)?;
+                let pairs = self.cut_all(StationRule::Pairs, windows, workshop)?;
+                let edges = self.cut_all(StationRule::Edges, windows, workshop)?;
+                let not_first = self.cut_all(StationRule::NotFirst, windows, workshop)?;
                 if !(pairs || edges || not_first) {
                     break;
                 }
@@ -281,37 +294,33 @@ impl Layout {
     }
 
     /// The standstill of the house pile, where only the given stations are not yet at theirs.
-    fn settle_swiftly(
-        &self,
-        windows: &mut Windows,
-        orders: &mut [Orders; STATIONS],
-        mut stirred: u8,
-    ) -> Result<(), Dead> {
+    /// Quick rules go first: Edges and Not-first wait until Route and Pairs stand still everywhere.
+    fn settle_swiftly(&self, windows: &mut Windows, workshop: &mut Workshop, stirred: u8) -> Result<(), Dead> {
         if self.circle {
             return Err(Dead);
         }
-        stirred |= self.route_walk(windows)?;
-        stirred &= self.shared;
-        while stirred != 0 {
-            let station = stirred.trailing_zeros() as usize;
-            stirred &= stirred - 1;
-            if self.settle_station(station, windows, &mut orders[station])? {
-                stirred |= self.route_walk(windows)? & self.shared;
+        let touched = self.route_walk(windows)?;
+        let mut for_pairs = (stirred | touched) & self.shared;
+        let mut for_sets = for_pairs;
+        while for_pairs | for_sets != 0 {
+            let (station, changed);
+            if for_pairs != 0 {
+                station = for_pairs.trailing_zeros() as usize;
+                for_pairs &= for_pairs - 1;
+                changed = self.cut(station, StationRule::Pairs, windows, workshop)?;
+            } else {
+                station = for_sets.trailing_zeros() as usize;
+                for_sets &= for_sets - 1;
+                changed = self.cut(station, StationRule::Edges, windows, workshop)?
+                    || self.cut(station, StationRule::NotFirst, windows, workshop)?;
+            }
+            if changed {
+                let touched = (self.route_walk(windows)? | 1 << station) & self.shared;
+                for_pairs |= touched;
+                for_sets |= touched;
             }
         }
         Ok(())
-    }
-
-    /// The standstill of the three rules at one station, the quick rules first.
-    fn settle_station(&self, station: usize, windows: &mut Windows, orders: &mut Orders) -> Result<bool, Dead> {
-        let mut changed = false;
-        while self.cut(station, StationRule::Pairs, windows, orders)?
-            || self.cut(station, StationRule::Edges, windows, orders)?
-            || self.cut(station, StationRule::NotFirst, windows, orders)?
-        {
-            changed = true;
-        }
-        Ok(changed)
     }
 }
 
@@ -332,7 +341,7 @@ pub struct Search {
     pace: Pace,
     outcome: Outcome,
     path: Vec<Decision>,
-    orders: [Orders; STATIONS],
+    workshop: Workshop,
     /// The single starts where the outcome is found.
     found: Windows,
 }
@@ -342,9 +351,8 @@ impl Search {
     pub fn close(sheet: Sheet, pace: Pace) -> Search {
         let layout = Layout::of(&sheet);
         let path = Vec::with_capacity(layout.longest_path());
-        let orders = std::array::from_fn(|_| Orders::new());
         let found = layout.entered;
-        Search { sheet, layout, pace, outcome: Outcome::Open, path, orders, found }
+        Search { sheet, layout, pace, outcome: Outcome::Open, path, workshop: Workshop::new(), found }
     }
 
     /// Gives back the sheet as it was closed.
@@ -411,7 +419,7 @@ impl Search {
 
     /// The windows of the path, narrowed to the standstill of the pile.
     fn narrowed(&mut self) -> Result<Windows, Dead> {
-        let Search { layout, path, orders, .. } = self;
+        let Search { layout, path, workshop, .. } = self;
         let mut windows = layout.entered;
         match self.pace {
             Pace::Rounds => {
@@ -420,7 +428,7 @@ impl Search {
                     windows.lct[decision.place] = decision.windows.lct[decision.place];
                     decision.choose(&mut windows, layout.p[decision.place]);
                 }
-                layout.settle_in_rounds(&mut windows, orders)?;
+                layout.settle_in_rounds(&mut windows, workshop)?;
             }
             Pace::Swift => {
                 let mut stirred = layout.shared;
@@ -429,7 +437,7 @@ impl Search {
                     last.choose(&mut windows, layout.p[last.place]);
                     stirred = 1 << layout.station[last.place];
                 }
-                layout.settle_swiftly(&mut windows, orders, stirred)?;
+                layout.settle_swiftly(&mut windows, workshop, stirred)?;
             }
         }
         Ok(windows)

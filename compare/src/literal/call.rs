@@ -2,7 +2,7 @@
 
 use super::rules::{HousePile, house_pile};
 use super::search::{Draft, Outcome, Search};
-use super::sheet::Refusal;
+use super::sheet::{LAST_STATION, Refusal};
 use super::slip::{self, Fault};
 
 /// The function over slip bytes, granted looks and a buffer, with the house pile.
@@ -52,22 +52,13 @@ fn fault_answer(fault: Fault) -> u32 {
     fault.number() + 100 * fault.line + 1_000_000 * fault.inside()
 }
 
-/// How large the search of a slip is, where the slip is not faulty.
-pub struct Sizes {
-    /// How many jobs the fullest station has.
-    pub largest_station: usize,
-    /// How many sets of jobs there are, over all stations.
-    pub sets: u64,
-}
-
-/// How large the search of a slip is; nothing where it is faulty.
-pub fn sizes(bytes: &[u8]) -> Option<Sizes> {
+/// How many parts all sets of jobs at all stations of a slip have, which tells how long the brute force
+/// will take; 0 where the slip is faulty.
+pub fn parts(bytes: &[u8]) -> u64 {
     let mut draft = Draft::new(house_pile());
-    slip::read(&mut draft, bytes).ok()?;
-    let mut counts = [0; 8];
-    for job in &draft.sheet.jobs {
-        counts[job.station as usize] += 1;
+    if slip::read(&mut draft, bytes).is_err() {
+        return 0;
     }
-    let largest_station = counts.into_iter().max().unwrap_or(0);
-    Some(Sizes { largest_station, sets: counts.iter().map(|&count| 1 << count).sum() })
+    let count = |station| draft.sheet.jobs.iter().filter(|job| job.station == station).count() as u32;
+    (0..=LAST_STATION).map(|station| 3u64.saturating_pow(count(station))).fold(0, u64::saturating_add)
 }
