@@ -17,7 +17,10 @@ fn main() {
     println!("cargo::rustc-env=RIUVELDE_LIB_FILE={}", library.display());
     if library.exists() {
         let object = Path::new(&env::var_os("OUT_DIR").expect("cargo sets OUT_DIR")).join("riuvelde.o");
-        run(Command::new("ld").args(["-r", "--force-group-allocation", "-u", CALL, "-o"]).arg(&object).arg(&library));
+        run(Command::new("ld")
+            .args(["-r", "--force-group-allocation", "-u", CALL, "-o"])
+            .arg(&object)
+            .arg(&library));
         run(Command::new("objcopy").arg(format!("--keep-global-symbol={CALL}")).arg(&object));
         println!("cargo::rustc-link-arg={}", object.display());
         println!("cargo::rustc-cfg=library");

@@ -28,8 +28,20 @@ pub fn benches() -> Vec<Bench> {
     vec![
         Bench { name: "ft06", sheet: ft06::sheet(55), looks: 25, answer: FOUND, calls: 200 },
         Bench { name: "ft06-like", sheet: shop(29, 6, 6, 10, 58), looks: 2_051, answer: FOUND, calls: 2 },
-        Bench { name: "one-station", sheet: one_station(4, 48, 20, 20), looks: 3_000, answer: OPEN, calls: 1 },
-        Bench { name: "eight-stations", sheet: shop(6, 6, 8, 99, 545), looks: 2_339, answer: FOUND, calls: 2 },
+        Bench {
+            name: "one-station",
+            sheet: one_station(4, 48, 20, 20),
+            looks: 3_000,
+            answer: OPEN,
+            calls: 1,
+        },
+        Bench {
+            name: "eight-stations",
+            sheet: shop(6, 6, 8, 99, 545),
+            looks: 2_339,
+            answer: FOUND,
+            calls: 2,
+        },
         Bench { name: "long-path", sheet: alike(48, 1, 40_000), looks: 769, answer: FOUND, calls: 4 },
         Bench { name: "circle", sheet: circle(6, 3, 20), looks: 1, answer: IMPOSSIBLE, calls: 1_000 },
         Bench { name: "slow-circle", sheet: circle(2, 1, 1), looks: 1, answer: IMPOSSIBLE, calls: 20 },
@@ -46,7 +58,8 @@ fn shop(seed: u64, orders: u32, stations: u32, longest: u32, due: u32) -> Sheet 
             route.swap(k, random.place(k + 1));
         }
         for (k, &station) in route.iter().enumerate() {
-            let job = sheet.enter(station, random.between(1, longest), 0, due).expect("the job can be entered");
+            let job =
+                sheet.enter(station, random.between(1, longest), 0, due).expect("the job can be entered");
             if k > 0 {
                 sheet.link(job - 1, job, 0).expect("the link can be entered");
             }
@@ -224,6 +237,7 @@ pub fn run_one(sheet: &str, planner: &str, calls: u32) -> Result<(), String> {
 /// The KiB of the main thread's stack that were ever touched, as the system tells them.
 fn stack_in_use() -> Option<u64> {
     let maps = std::fs::read_to_string("/proc/self/smaps").ok()?;
-    let resident = maps.lines().skip_while(|line| !line.ends_with("[stack]")).find(|line| line.starts_with("Rss:"))?;
+    let resident =
+        maps.lines().skip_while(|line| !line.ends_with("[stack]")).find(|line| line.starts_with("Rss:"))?;
     resident.split_whitespace().nth(1)?.parse().ok()
 }

@@ -375,8 +375,11 @@ fn wrong_job(random: &mut Random) -> Job {
 fn wrong_link(random: &mut Random, sheet: &Sheet) -> Link {
     let jobs = sheet.jobs.len() as u32;
     let job = [0, 1, jobs / 3, jobs / 2, jobs - 1, random.one_of(&[jobs - 1, jobs, 48, 99_999])];
-    let mut wrong =
-        Link { from: random.one_of(&job), to: random.one_of(&job), wait: random.one_of(&[0, 1, 2_000, 2_001, 99_999]) };
+    let mut wrong = Link {
+        from: random.one_of(&job),
+        to: random.one_of(&job),
+        wait: random.one_of(&[0, 1, 2_000, 2_001, 99_999]),
+    };
     if !sheet.links.is_empty() && random.once_in(3) {
         let there = random.one_of(&sheet.links);
         wrong.from = there.from;

@@ -72,7 +72,8 @@ fn report(planner: &str, due: u32, answer: u32, made: u32, sheet: &Sheet, buffer
 /// Whether the starts in a buffer are a timetable of the sheet.
 fn keeps(sheet: &Sheet, buffer: &[u8]) -> bool {
     use crate::literal::rules::{Rule, house_pile};
-    let starts: Vec<i64> = buffer.chunks_exact(2).map(|b| i64::from(u16::from_le_bytes([b[0], b[1]]))).collect();
+    let starts: Vec<i64> =
+        buffer.chunks_exact(2).map(|b| i64::from(u16::from_le_bytes([b[0], b[1]]))).collect();
     let in_windows = sheet.jobs.iter().zip(&starts).all(|(job, start)| {
         i64::from(job.release) <= *start && start + i64::from(job.duration) <= i64::from(job.due)
     });

@@ -32,7 +32,8 @@ fn by_literal(slip: &[u8]) -> String {
         Outcome::Open => format!("open {looks}\n"),
         Outcome::Impossible => format!("impossible {looks}\n"),
         Outcome::Found(starts) => {
-            let jobs = sheet.jobs.iter().zip(starts).map(|(job, &start)| (job.station, job.duration, start as u32));
+            let jobs =
+                sheet.jobs.iter().zip(starts).map(|(job, &start)| (job.station, job.duration, start as u32));
             found(looks, jobs)
         }
     }

@@ -75,7 +75,11 @@ impl fmt::Display for Difference {
         for (planner, reply) in [&self.reference, &self.other] {
             let (before, rest) = reply.buffer.split_at(GUARD);
             let (room, after) = rest.split_at(rest.len() - GUARD);
-            writeln!(f, "{planner:?}: answer {}, looks made {:?}, buffer {room:?}", reply.answer, reply.looks)?;
+            writeln!(
+                f,
+                "{planner:?}: answer {}, looks made {:?}, buffer {room:?}",
+                reply.answer, reply.looks
+            )?;
             writeln!(f, "    bytes before it {before:?}, after it {after:?}")?;
         }
         Ok(())
@@ -116,7 +120,12 @@ pub fn run(run: &Run) -> bool {
 }
 
 /// Holds all planners against the reference in one case.
-fn compare(case: &Case, random: &mut Random, with_library: bool, tally: &mut Tally) -> Result<(), Difference> {
+fn compare(
+    case: &Case,
+    random: &mut Random,
+    with_library: bool,
+    tally: &mut Tally,
+) -> Result<(), Difference> {
     let filling: Vec<u8> = (0..case.buffer + 2 * GUARD).map(|_| random.byte()).collect();
     let reference = reference_for(case);
     let expected = tally.ask(reference, case, case.looks, &filling);
@@ -200,7 +209,10 @@ impl Tally {
     }
 
     fn print(&self, run: &Run, seconds: f64) {
-        println!("seed {}: {} cases, {} calls, {} looks of the references, {seconds:.0} s", run.seed, self.cases, self.calls, self.looks);
+        println!(
+            "seed {}: {} cases, {} calls, {} looks of the references, {seconds:.0} s",
+            run.seed, self.cases, self.calls, self.looks
+        );
         for (planner, count) in &self.asked {
             println!("  calls of {planner:?}: {count}");
         }
@@ -211,7 +223,9 @@ impl Tally {
             println!("  {word} after 1 look: {one}, 2 to 9: {few}, 10 to 99: {tens}, more: {more}");
         }
         if !run.with_library {
-            println!("without the library: only the literal and the fast planner were held against each other");
+            println!(
+                "without the library: only the literal and the fast planner were held against each other"
+            );
         }
         println!("differences: {}", self.differences);
     }

@@ -1,6 +1,6 @@
 //! Holds the fast planner against the literal one: rule by rule, call by call, slip by slip.
 
-use crate::cases::any_sheet;
+use crate::cases::{Case, any_sheet};
 use crate::fast;
 use crate::fast::search::{Layout, Outcome, Pace, Search, Windows, Workshop};
 use crate::fast::station::{Dead, StationRule};
@@ -8,6 +8,7 @@ use crate::literal;
 use crate::literal::rules::{Cut, Edges, NotFirst, Pairs, Route, Rule, Window, house_pile};
 use crate::literal::sheet::Sheet;
 use crate::random::Random;
+use crate::runner;
 
 /// The same sheet for the fast planner.
 fn fast_sheet(sheet: &Sheet) -> fast::sheet::Sheet {
@@ -70,7 +71,11 @@ fn each_rule_cuts_alike() {
         let windows = literal::search::entered_windows(&sheet);
         assert_eq!(fast_cut(&sheet, Some(StationRule::Pairs)), Pairs.cut(&sheet, &windows), "{sheet:?}");
         assert_eq!(fast_cut(&sheet, Some(StationRule::Edges)), Edges.cut(&sheet, &windows), "{sheet:?}");
-        assert_eq!(fast_cut(&sheet, Some(StationRule::NotFirst)), NotFirst.cut(&sheet, &windows), "{sheet:?}");
+        assert_eq!(
+            fast_cut(&sheet, Some(StationRule::NotFirst)),
+            NotFirst.cut(&sheet, &windows),
+            "{sheet:?}"
+        );
         assert_eq!(fast_cut(&sheet, None), Route.cut(&sheet, &windows), "{sheet:?}");
     }
 }
@@ -148,6 +153,30 @@ fn ask<R: Rule>(random: &mut Random, literal: &mut literal::search::Search<R>, f
     assert_eq!(expected.map_err(|refusal| refusal.number()), got.map_err(|refusal| refusal.0));
     assert_eq!(literal.outcome().number(), fast.outcome() as u32);
     assert_eq!(literal.path_length(), fast.path_length());
+}
+
+/// Read the other way round: a slip is accepted exactly if it is the text of what the draft then holds.
+#[test]
+fn accepted_slips_are_texts() {
+    let mut accepted = 0;
+    for number in 0..20_000 {
+        let slip = Case::numbered(4, number).slip;
+        let mut draft = literal::search::Draft::new(house_pile());
+        match literal::slip::read(&mut draft, &slip) {
+            Ok(()) => {
+                assert_eq!(literal::slip::text(&draft.sheet), slip);
+                accepted += 1;
+            }
+            Err(_) => assert_eq!(draft.sheet, Sheet::default()),
+        }
+    }
+    assert!(accepted > 5_000);
+}
+
+/// A short run of the comparison without the library.
+#[test]
+fn planners_answer_slips_alike() {
+    assert!(runner::run(&runner::Run { seed: 5, cases: 5_000, only: None, with_library: false }));
 }
 
 /// Both paces make the same looks on sheets of any size.

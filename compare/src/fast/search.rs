@@ -117,7 +117,9 @@ impl Layout {
         let mut place = 0;
         for station in 0..STATIONS {
             self.begin[station] = place;
-            for (number, job) in sheet.jobs().iter().enumerate().filter(|(_, job)| job.station == station as u8) {
+            for (number, job) in
+                sheet.jobs().iter().enumerate().filter(|(_, job)| job.station == station as u8)
+            {
                 self.place[number] = place as u8;
                 self.job[place] = number as u8;
                 self.p[place] = job.duration;
@@ -295,7 +297,12 @@ impl Layout {
 
     /// The standstill of the house pile, where only the given stations are not yet at theirs.
     /// Quick rules go first: Edges and Not-first wait until Route and Pairs stand still everywhere.
-    fn settle_swiftly(&self, windows: &mut Windows, workshop: &mut Workshop, stirred: u8) -> Result<(), Dead> {
+    fn settle_swiftly(
+        &self,
+        windows: &mut Windows,
+        workshop: &mut Workshop,
+        stirred: u8,
+    ) -> Result<(), Dead> {
         if self.circle {
             return Err(Dead);
         }

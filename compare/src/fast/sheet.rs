@@ -71,8 +71,12 @@ impl Sheet {
         }
         check_times(duration, release, due)?;
         let number = self.job_count;
-        self.jobs[number] =
-            Job { station: station as u8, duration: duration as i32, release: release as i32, due: due as i32 };
+        self.jobs[number] = Job {
+            station: station as u8,
+            duration: duration as i32,
+            release: release as i32,
+            due: due as i32,
+        };
         self.job_count += 1;
         Ok(number as u32)
     }

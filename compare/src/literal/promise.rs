@@ -37,7 +37,8 @@ fn the_search_keeps_the_promise() {
         draft.sheet = tiny_sheet(&mut random);
         let sheet = draft.sheet.clone();
         let all = timetables(&entered_windows(&sheet));
-        let fitting: Vec<&Vec<i64>> = all.iter().filter(|starts| house_pile().admits(&sheet, starts)).collect();
+        let fitting: Vec<&Vec<i64>> =
+            all.iter().filter(|starts| house_pile().admits(&sheet, starts)).collect();
         let enough = 2 * all.len() as u32 - 1;
         let mut search = draft.close();
         let made = search.advance(enough).unwrap();

@@ -125,8 +125,9 @@ fn duration(sheet: &Sheet, job: usize) -> i64 {
 
 /// Whether of any two jobs at one station one ends no later than the other starts.
 fn one_at_a_time(sheet: &Sheet, starts: &[i64]) -> bool {
-    pairs_at_one_station(sheet)
-        .all(|(i, j)| starts[i] + duration(sheet, i) <= starts[j] || starts[j] + duration(sheet, j) <= starts[i])
+    pairs_at_one_station(sheet).all(|(i, j)| {
+        starts[i] + duration(sheet, i) <= starts[j] || starts[j] + duration(sheet, j) <= starts[i]
+    })
 }
 
 /// All ordered pairs of two different jobs of one station.
@@ -171,9 +172,11 @@ struct Sets {
 
 impl Sets {
     fn at(station: u32, sheet: &Sheet, w: &[Window]) -> Sets {
-        let jobs: Vec<usize> = (0..sheet.jobs.len()).filter(|&job| sheet.jobs[job].station == station).collect();
+        let jobs: Vec<usize> =
+            (0..sheet.jobs.len()).filter(|&job| sheet.jobs[job].station == station).collect();
         let count = 1 << jobs.len();
-        let mut sets = Sets { est: vec![i64::MAX; count], lct: vec![i64::MIN; count], p: vec![0; count], jobs };
+        let mut sets =
+            Sets { est: vec![i64::MAX; count], lct: vec![i64::MIN; count], p: vec![0; count], jobs };
         for s in 1..count {
             for k in (0..sets.jobs.len()).filter(|k| s & (1 << k) != 0) {
                 let job = sets.jobs[k];

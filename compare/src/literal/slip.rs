@@ -148,8 +148,11 @@ fn number(digits: &[u8]) -> Option<u32> {
 
 /// The slip of a sheet: the text of its jobs, its links and their true trailer.
 pub fn text(sheet: &Sheet) -> Vec<u8> {
-    let jobs: String =
-        sheet.jobs.iter().map(|j| format!("J {} {} {} {}\n", j.station, j.duration, j.release, j.due)).collect();
+    let jobs: String = sheet
+        .jobs
+        .iter()
+        .map(|j| format!("J {} {} {} {}\n", j.station, j.duration, j.release, j.due))
+        .collect();
     let links: String = sheet.links.iter().map(|l| format!("L {} {} {}\n", l.from, l.to, l.wait)).collect();
     let trailer = format!("E {} {} {}\n", sheet.jobs.len(), sheet.links.len(), jobs.len());
     (jobs + &links + &trailer).into_bytes()
