@@ -22,7 +22,8 @@ pub unsafe extern "C" fn riuvelde_plan(
     buffer_len: usize,
 ) -> u32 {
     // SAFETY: the caller keeps the conditions above.
-    let (slip, buffer) =
-        unsafe { (std::slice::from_raw_parts(slip, slip_len), std::slice::from_raw_parts_mut(buffer, buffer_len)) };
+    let (slip, buffer) = unsafe {
+        (std::slice::from_raw_parts(slip, slip_len), std::slice::from_raw_parts_mut(buffer, buffer_len))
+    };
     fast::plan(slip, looks, buffer, Pace::Rounds).0
 }
