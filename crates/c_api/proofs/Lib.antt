@@ -1,2 +1,3 @@
 -- Lemmas of the call for C.
 pub mod Encoding
+pub mod Fitting

@@ -5,7 +5,7 @@ use Prim.Native.Nat.{ℕ, _+_, _*_, _≤_, _<_}
 use lib.ListN.{length, getD}
 use Rattle.sheet.specs.Refusals.{refusal-number}
 use Rattle.slip.specs.declared.fault.Fault.{Fault}
-use Rattle.slip.specs.Faults.{fault-number, fault-line, fault-inside}
+use Rattle.slip.specs.Faults.{fault-number, fault-line, fault-inside, last-line}
 use Rattle.search.specs.Outcomes.{outcome-number}
 use Rattle.search.specs.Looks.{State, opened, found, impossible, outcome-of}
 use Rattle.report.specs.declared.reported.Unplanned.{Unplanned}
@@ -40,3 +40,8 @@ abbrev pub Writable : State → List ℕ → Type 0
 Writable (opened p) buffer = Unit {0}
 Writable (found p t) buffer = (2 * length t ≤ length buffer) × ((k : ℕ) → k < length t → getD t k 0 < 65536)
 Writable impossible buffer = Unit {0}
+
+-- a fault's line leaves room for the three figures in one number
+abbrev pub Tellable : Unplanned → Type 0
+Tellable (Faulty f) = fault-line f ≤ last-line
+Tellable (Refused r) = Unit {0}

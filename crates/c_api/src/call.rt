@@ -2,15 +2,14 @@
 ghost use mathlib.Core.Path.{_≡_};
 ghost use Prim.Native.Nat.{ℕ, _*_, _/_, _≤_, _<_};
 ghost use lib.ListN.{length, getD};
-ghost use Rattle.slip.specs.Faults.{fault-line};
-ghost use Rattle.slip.proofs.Bounded.{last-line};
+ghost use Rattle.slip.specs.Faults.{fault-line, last-line};
 ghost use Rattle.planner.specs.States.{state-of};
 ghost use Rattle.house.specs.Piles.{house-cut};
 ghost use Rattle.house.specs.Hall.{In-the-halls-words};
 ghost use Rattle.report.specs.Planning.{plan-slip, told};
 ghost use Rattle.search.specs.Looks.{outcome-of};
 ghost use Rattle.search.specs.Outcomes.{outcome-number};
-ghost use Rattle.c_api.specs.Answers.{fault-answer, unplanned-answer, answer, buffer-of-state, buffer-after, Writable};
+ghost use Rattle.c_api.specs.Answers.{fault-answer, unplanned-answer, answer, buffer-of-state, buffer-after, Tellable, Writable};
 use crate::bytes::write_starts;
 use house::pile::HousePile;
 use house::planning::plan_within;
@@ -24,6 +23,17 @@ fn fault_answer(fault: Fault) -> u32
     ensures { λ r. ⌜ r ≡ fault-answer fault ⌝ }
 {
     fault.number() + 100 * fault.line() as u32 + 1_000_000 * fault.inside()
+}
+
+/// Why a slip was not planned, in one number.
+fn unplanned_answer(unplanned: Unplanned) -> u32
+    requires { ⌜ Tellable unplanned ⌝ }
+    ensures { λ r. ⌜ r ≡ unplanned-answer unplanned ⌝ }
+{
+    match unplanned {
+        Unplanned::Faulty(fault) => fault_answer(fault),
+        Unplanned::Refused(refusal) => refusal.number(),
+    }
 }
 
 /// The number of a report's outcome; where a timetable was found, its starts go into the buffer.
@@ -52,7 +62,6 @@ pub extern "C" fn riuvelde_plan(slip: &[u8], looks: u32, buffer: &mut [u8]) -> u
 {
     match plan_within(slip, looks, buffer.len() / 2) {
         Ok(report) => report_answer(report, buffer),
-        Err(Unplanned::Faulty(fault)) => fault_answer(fault),
-        Err(Unplanned::Refused(refusal)) => refusal.number(),
+        Err(unplanned) => unplanned_answer(unplanned),
     }
 }

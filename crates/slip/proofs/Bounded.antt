@@ -12,13 +12,12 @@ use Rattle.sheet.specs.declared.records.Link.{Link}
 use Rattle.sheet.specs.declared.refusal.Refusal.{Refusal}
 use Rattle.sheet.specs.Entries.{Entries, no-entries, with-job, with-link}
 use Rattle.sheet.specs.Entering.{enter-answer, link-answer}
-use Rattle.sheet.specs.Limits.{most-jobs, most-links}
 use Rattle.sheet.specs.Sound.{Sound}
 use Rattle.sheet.proofs.Accepting.{none-sound, enter-sound, link-sound}
 use Rattle.slip.specs.declared.fault.Fault.{Fault}
 use Rattle.slip.specs.declared.fault.Fault.the-variants.{TooLong, Unfinished, BadLetter, BadFields, UntrueTrailer, Refused}
 use Rattle.slip.specs.Adding.{add-job, add-link, add-all, Enterable}
-use Rattle.slip.specs.Faults.{fault-line}
+use Rattle.slip.specs.Faults.{fault-line, last-line}
 use Rattle.slip.proofs.Results.{ok-same, then-ok, unless-refused-ok}
 use Rattle.slip.specs.Faulty.{Faulty, Line-has, line-count, Runs-out, Line-at-fault, Bytes-left-over, Line-after-trailer}
 
@@ -34,10 +33,6 @@ enterable-sound b e =
     let jobs : Sound (d .0) =
     all-sound add-job (λ x y j s q. let r = unless-refused-ok (enter-answer x j) (with-job x j) y q in subst Sound (r .2) (enter-sound x j (r .0) s (r .1))) (b .jobs) no-entries (d .0) none-sound (d .1) in
     all-sound add-link (λ x y l s q. let r = unless-refused-ok (link-answer x l) (with-link x l) y q in subst Sound (r .2) (link-sound x l s (r .1))) (b .links) (d .0) b jobs (d .2)
-
--- the lines of a full sheet, the trailer, and one more
-abbrev pub last-line : ℕ
-last-line = most-jobs + most-links + 2
 
 line-has-line : (b : Entries) (line : List ℕ) (n : ℕ) (f : Fault) → Line-has b line n f → fault-line f ≡ n
 line-has-line b line n TooLong h = absurd h
