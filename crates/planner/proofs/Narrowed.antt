@@ -6,10 +6,8 @@ use Prim.Native.Nat.{ℕ, _<_}
 use lib.ListN.{length}
 use Rattle.std.proofs.shelf.Tests.{and-parts}
 use Rattle.sheet.specs.declared.records.Window.{Window}
-use Rattle.sheet.specs.Entries.{Entries}
-use Rattle.sheet.specs.Sound.{Sound}
 use Rattle.sheet.proofs.Soundness.{sheet-sound}
-use Rattle.rule.specs.Windows.{window, all-fine, formed, Formed, Within}
+use Rattle.rule.specs.Windows.{window, all-fine, formed, Formed}
 use Rattle.rule.specs.Cuts.{Cut, live, repeated}
 use Rattle.rule.specs.Laws.{Lawful}
 use Rattle.rule.proofs.Forming.{formed-test}

@@ -82,6 +82,13 @@ impl<P> Search<P> {
         }
     }
 
+    /// What has come of the search so far.
+    pub fn outcome(&self) -> Outcome
+        ensures { λ r. ⌜ r ≡ outcome-of (state-of (now (self .entry))) ⌝ }
+    {
+        self.outcome
+    }
+
     /// The timetable that was found: each job's start, by number.
     pub fn timetable(&self) -> Option<&[u32]>
         ensures { λ r. ⌜ Cases r (timetable-of (state-of (now (self .entry))) ≡ None) (λ t. timetable-of (state-of (now (self .entry))) ≡ Some (now t)) ⌝ }

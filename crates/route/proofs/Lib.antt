@@ -1,3 +1,2 @@
 -- Lemmas of Route.
-pub mod Tightest
 pub mod Links

@@ -1,8 +1,6 @@
 -- Route: which timetables it admits, and what it makes of windows.
-use mathlib.Core.List.{List, [], _∷_}
-use mathlib.Core.Bool.{cond}
+use mathlib.Core.List.{List}
 use Prim.Native.Nat.{ℕ, _+_, _-_, _≤_, _<_, max, min}
-use lib.Dec.{eqb}
 use lib.ListN.{length, getD}
 use Rattle.sheet.specs.declared.records.Job.{Job}
 use Rattle.sheet.specs.declared.records.Link.{Link}
@@ -11,6 +9,7 @@ use Rattle.sheet.specs.Entries.{Entries, job, link}
 use Rattle.rule.specs.Windows.{window}
 use Rattle.rule.specs.Cuts.{Cut}
 use Rattle.rule.specs.Bounds.{together}
+use Rattle.rule.specs.Tightest.{tightest}
 
 -- from the start of a link's first job to the soonest start of its second: the duration of the first and the wait
 abbrev pub lag : List Job → Link → ℕ
@@ -31,12 +30,6 @@ start-after js ws l = window ws (l .from) .lo + lag js l
 -- one more than the last start that a link leaves its first job, hi_b - wait - p_a; where that is below zero, 0
 abbrev pub past-before : List Job → List Window → Link → ℕ
 past-before js ws l = window ws (l .to) .hi + 1 - lag js l
-
--- the tightest of a job's own bound and of those that the links at it leave
-abbrev pub tightest : (tighter : ℕ → ℕ → ℕ) (at bound : Link → ℕ) (own : ℕ → ℕ) → List Link → ℕ → ℕ
-tightest tighter at bound own [] k = own k
-tightest tighter at bound own (l ∷ ls) k =
-    cond (eqb (at l) k) (tighter (bound l) (tightest tighter at bound own ls k)) (tightest tighter at bound own ls k)
 
 -- the first start of job k, by its window and the links to it
 abbrev pub earliest-start : List Job → List Window → List Link → ℕ → ℕ

@@ -3,4 +3,5 @@ pub mod Forming
 pub mod Piling
 pub mod Repeating
 pub mod Bounding
+pub mod Tightest
 pub mod Setting

@@ -3,4 +3,5 @@ pub mod Windows
 pub mod Cuts
 pub mod Laws
 pub mod Bounds
+pub mod Tightest
 pub mod Rounds

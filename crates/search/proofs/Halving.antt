@@ -1,22 +1,20 @@
 -- Decisions that split a job's window in two, and paths that grew by them.
-use mathlib.Core.Path.{_≡_, refl, subst}
 use mathlib.Core.List.{List, [], _∷_}
 use mathlib.Core.Logic.{_⊎_, inl, inr, ⊎-elim}
-use Prim.Native.Nat.{ℕ, zero, suc, _+_, _-_, _*_, _/_, _≤_, _<_}
+use Prim.Native.Nat.{ℕ, zero, suc, _+_, _-_, _*_, _≤_, _<_}
 use native.Mathlib.Omega.{arith}
-use lib.ListN.{length, getD, set}
+use lib.ListN.{getD, set}
 use Rattle.std.proofs.shelf.Tests.{cases-lt}
 use Rattle.sheet.specs.declared.records.Window.{Window}
-use Rattle.sheet.specs.Limits.{last-minute}
 use Rattle.rule.specs.Windows.{window, Formed, Within, Inside}
 use Rattle.rule.proofs.Forming.{still-within, within-within}
 use Rattle.search.specs.declared.decision.Decision.{Decision}
 use Rattle.search.specs.declared.decision.Part.{Part}
 use Rattle.search.specs.declared.decision.Part.the-variants.{First, Second}
 use Rattle.search.specs.Counting.{timetables}
-use Rattle.search.specs.Deciding.{part-of, chosen, to-second, cut-down, Splits, Grown}
-use Rattle.search.specs.Looks.{State, opened, path-of, by-part, backtracked}
-use Rattle.search.proofs.Boxes.{set-formed, set-inside, set-within, some-timetable, two-parts}
+use Rattle.search.specs.Deciding.{part-of, to-second, cut-down, Splits, Grown}
+use Rattle.search.specs.Looks.{opened, path-of, by-part, backtracked}
+use Rattle.search.proofs.Boxes.{set-formed, set-inside, set-within, two-parts}
 
 -- a box with the job's window cut to one part
 abbrev pub part-box : Part → List Window → Decision → List Window

@@ -1,6 +1,6 @@
 -- Every search keeps the promise, from the laws of its pile on a sound sheet.
 use mathlib.Core.Path.{_≡_, refl, sym, ap, subst, _∙_}
-use mathlib.Core.List.{List, [], _∷_}
+use mathlib.Core.List.{List, []}
 use mathlib.Core.Logic.{_⊎_, inl, inr}
 use Prim.Native.Nat.{ℕ, _+_, _≤_}
 use native.Mathlib.Omega.{arith}
@@ -13,7 +13,7 @@ use Rattle.rule.specs.Laws.{Lawful}
 use Rattle.search.specs.declared.decision.Decision.{Decision}
 use Rattle.search.specs.Entered.{entered-windows}
 use Rattle.search.specs.Looks.{State, opened, found, impossible, path-of, one-look, after-looks, looks-made}
-use Rattle.search.specs.Promise.{enough-looks, Promise, Promised, Keeps-promise, advances, reports, total}
+use Rattle.search.specs.Promise.{enough-looks, Promise, Promised, Keeps-promise, reports, total}
 use Rattle.search.proofs.Looking.{entered-formed, Good, start-good, run-good, good-few, good-grown, look-left}
 use Rattle.search.proofs.Rows.{composes, after-add, made-add, made-within, open-spent}
 use Rattle.search.proofs.Depth.{path-short}

@@ -32,8 +32,9 @@ module _ (f : List Decision → State) where
   after-add (suc k) m impossible = after-impossible (suc k + m) ∙ sym (after-impossible m)
 
   pub made-add : (k m : ℕ) (s : State) → looks-made f (k + m) s ≡ looks-made f k s + looks-made f m (after-looks f k s)
-  made-add zero m s = rw (zero-add, zero-add)
-  made-add (suc k) m (opened p) = rw (suc-add, suc-add) (ap suc (made-add k m (f p)))
+  made-add zero m s = ap (λ (n : ℕ). looks-made f n s) (zero-add m) ∙ sym (zero-add (looks-made f m s))
+  made-add (suc k) m (opened p) =
+      ap (λ (n : ℕ). looks-made f n (opened p)) (suc-add k m) ∙ ap suc (made-add k m (f p)) ∙ sym (suc-add (looks-made f k (f p)) _)
   made-add (suc k) m (found p t) = rw zero-add (made-found (suc k + m) p t ∙ sym (made-found m p t))
   made-add (suc k) m impossible = rw zero-add (made-impossible (suc k + m) ∙ sym (made-impossible m))
 

@@ -1,10 +1,10 @@
 -- The standstill of a lawful rule: it stays within the windows, loses nothing, and the rule changes nothing there.
-use mathlib.Core.Path.{_≡_, refl, ap, subst, _∙_}
+use mathlib.Core.Path.{_≡_, subst}
 use mathlib.Core.List.{List}
 use Prim.Native.Nat.{ℕ, suc}
 use Rattle.sheet.specs.declared.records.Window.{Window}
 use Rattle.rule.specs.Windows.{Formed, Within, Inside, Single, starts}
-use Rattle.rule.specs.Cuts.{Cut, dead, live, width, repeated}
+use Rattle.rule.specs.Cuts.{Cut, live, width, repeated}
 use Rattle.rule.specs.Laws.{Keeps, Lawful, Repeats, ends-dead, ends-still, goes-on}
 use Rattle.rule.proofs.Forming.{dead-not-live, within-formed}
 use Rattle.rule.proofs.Repeating.{repeated-within, repeated-keeps, repeats}

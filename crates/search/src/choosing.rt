@@ -1,7 +1,6 @@
 // The choice of the job whose window is split.
 ghost use mathlib.Core.Path.{_≡_};
 ghost use mathlib.Core.Bool.{true};
-ghost use lib.ListN.{length};
 ghost use Rattle.rule.specs.Windows.{all-fine};
 ghost use Rattle.search.specs.Choosing.{narrowest as narrowest-of, Chooses};
 use sheet::limits::LAST_MINUTE;

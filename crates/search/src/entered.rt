@@ -4,12 +4,24 @@ ghost use Prim.Native.Nat.{_≤_};
 ghost use lib.ListN.{length, take};
 ghost use Rattle.sheet.specs.Sheets.{entries};
 ghost use Rattle.rule.specs.Windows.{starts as starts-of};
-ghost use Rattle.search.specs.Entered.{entered-windows};
+ghost use Rattle.search.specs.Entered.{entered-window, entered-windows};
 ghost use Rattle.search.specs.Counting.{Counted};
+use sheet::records::Job;
 use sheet::records::Window;
 use sheet::table::Sheet;
 
-/// Sets each job's entered window: from its release to its due time less its duration.
+/// The window that a job was entered with: from its release to its due time less its duration.
+fn entered_window(job: Job) -> Window
+    requires { ⌜ job .duration ≤ job .due ⌝ }
+    ensures { λ r. ⌜ r ≡ entered-window job ⌝ }
+{
+    Window {
+        lo: job.release,
+        hi: job.due - job.duration,
+    }
+}
+
+/// Sets each job's entered window.
 /// The timetables within these windows can be listed, and are as many as the widths' product says.
 pub fn enter_windows(sheet: &Sheet, windows: &mut [Window])
     requires { ⌜ length (now windows) ≡ length (entries (now sheet) .jobs) ⌝ }
@@ -18,11 +30,7 @@ pub fn enter_windows(sheet: &Sheet, windows: &mut [Window])
 {
     let jobs = sheet.jobs();
     for i in 0..windows.len() {
-        let job = jobs[i];
-        windows[i] = Window {
-            lo: job.release,
-            hi: job.due - job.duration,
-        };
+        windows[i] = entered_window(jobs[i]);
     }
 }
 

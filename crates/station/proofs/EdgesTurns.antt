@@ -8,7 +8,6 @@ use native.Mathlib.Numerals.{add-one}
 use lib.Dec.{ltb}
 use lib.ListN.{length, getD, drop, set}
 use lib.Seq.{drop-cons}
-use Rattle.std.proofs.shelf.Lists.{drop-all}
 use Rattle.std.proofs.shelf.Tests.{cond-true, cond-false, le-leb, lt-leb, lt-ltb, le-ltb}
 use Rattle.station.specs.declared.task.Task.{Task}
 use Rattle.station.specs.EdgesPasses.{completion-before, completion-by, ends-by, raised-by-earlier, raised-by-later, work-of}
@@ -16,7 +15,8 @@ use Rattle.station.specs.Limits.{horizon, most-work}
 use Rattle.station.specs.Tasks.{Formed, at, no-task}
 use Rattle.station.proofs.EdgesFigures.{before-le, completion-no, completion-yes}
 use Rattle.station.proofs.Members.{fit-at}
-use Rattle.station.proofs.Rewriting.{Down-to, Up-to, down-none, down-same, down-set, up-none, up-same, up-set}
+use Rattle.station.proofs.Passes.{Pass, inside, pass-same, pass-set, same-figure, same-work}
+use Rattle.station.proofs.Rewriting.{Up-to, up-none, up-same, up-set}
 use Rattle.station.proofs.Works.{span-no, span-yes, work-here, work-most}
 
 -- one place further down
@@ -34,45 +34,25 @@ module _ (b : ℕ) (U : List Task) (j : ℕ) (h : j < length U) where
   completion-free e = ap (completion-by b) (drop-cons U j no-task h) ∙ completion-no b (at U j) (drop (suc j) U) e
 
 -- the pass down has come to place k, from the bounds xs to ys
-pub record Later (b : ℕ) (U : List Task) (xs ys : List ℕ) (k w t : ℕ) : Type 0 where
-  pub within : k ≤ length U
-  pub work : w ≡ work-of (ends-by b) (drop k U)
-  pub completion : t ≡ completion-by b (drop k U)
-  pub lows : Down-to 0 (raised-by-later b U) xs (length U) ys k
-
-pub later-none : (b : ℕ) (U : List Task) (xs : List ℕ) → Later b U xs xs (length U) 0 0
-later-none b U xs = record {
-  within = omega arith;
-  work = sym (ap (work-of (ends-by b)) (drop-all (length U) U (omega arith)));
-  completion = sym (ap (completion-by b) (drop-all (length U) U (omega arith)));
-  lows = down-none 0 (raised-by-later b U) xs (length U);
-}
+abbrev pub Later : ℕ → List Task → List ℕ → List ℕ → ℕ → ℕ → ℕ → Type 0
+Later b U xs ys k w t = Pass (work-of (ends-by b)) (completion-by b) (raised-by-later b U) U xs ys k w t
 
 module _ (b : ℕ) (U : List Task) (xs ys : List ℕ) (k w t j : ℕ) (d : Later b U xs ys k w t) (s : k ≡ suc j) where
-  inside : j < length U
-  inside = omega (arith, d .within)
+  here-inside : j < length U
+  here-inside = inside _ _ _ _ _ _ _ _ _ _ d s
 
-  same-work : w ≡ work-of (ends-by b) (drop (suc j) U)
-  same-work = d .work ∙ ap (λ (n : ℕ). work-of (ends-by b) (drop n U)) s
+  behind-work : w ≡ work-of (ends-by b) (drop (suc j) U)
+  behind-work = same-work _ _ _ _ _ _ _ _ _ _ d s
 
-  same-completion : t ≡ completion-by b (drop (suc j) U)
-  same-completion = d .completion ∙ ap (λ (n : ℕ). completion-by b (drop n U)) s
+  behind-completion : t ≡ completion-by b (drop (suc j) U)
+  behind-completion = same-figure _ _ _ _ _ _ _ _ _ _ d s
 
   pub later-held : at U j .end ≤ b → (r : ℕ) → r ≡ max t (at U j .lo + (w + at U j .span)) → Later b U xs ys j (w + at U j .span) r
-  later-held e r rt = record {
-    within = omega (arith, inside);
-    work = omega (arith, same-work, work-held b U j inside e);
-    completion = omega (arith, same-work, same-completion, completion-held b U j inside e);
-    lows = down-same 0 (raised-by-later b U) xs (length U) ys k j (d .lows) s (sym (cond-true (ends-by b (at U j)) _ _ (le-leb _ _ e)));
-  }
-
-  free : b < at U j .end → (zs : List ℕ) → Down-to 0 (raised-by-later b U) xs (length U) zs j → Later b U xs zs j w t
-  free e zs lows = record {
-    within = omega (arith, inside);
-    work = same-work ∙ sym (work-free b U j inside e);
-    completion = same-completion ∙ sym (completion-free b U j inside e);
-    lows = lows;
-  }
+  later-held e r rt =
+      pass-same _ _ _ U xs ys k w t j d s (w + at U j .span) r
+      (omega (arith, behind-work, work-held b U j here-inside e))
+      (omega (arith, behind-work, behind-completion, completion-held b U j here-inside e))
+      (sym (cond-true (ends-by b (at U j)) _ _ (le-leb _ _ e)))
 
   abbrev needed : ℕ
   needed = at U j .lo + (at U j .span + work-of (ends-by b) (drop (suc j) U))
@@ -82,13 +62,13 @@ module _ (b : ℕ) (U : List Task) (xs ys : List ℕ) (k w t j : ℕ) (d : Later
 
   pub later-raise : b < at U j .end → b < at U j .lo + at U j .span + w → j < length ys → (x : ℕ) → x ≡ max (getD ys j 0) t → Later b U xs (set ys j x) j w t
   later-raise e r l x xt =
-      let z : cond (ltb b needed) (completion-by b (drop (suc j) U)) 0 ≡ completion-by b (drop (suc j) U) = cond-true (ltb b needed) _ _ (lt-ltb _ _ (omega (arith, same-work))) in
-      free e _ (down-set 0 (raised-by-later b U) xs (length U) ys k j (d .lows) s x l (omega (arith, raised e (getD ys j 0), same-completion)))
+      let z : cond (ltb b needed) (completion-by b (drop (suc j) U)) 0 ≡ completion-by b (drop (suc j) U) = cond-true (ltb b needed) _ _ (lt-ltb _ _ (omega (arith, behind-work))) in
+      pass-set _ _ _ U xs ys k w t j d s w t (behind-work ∙ sym (work-free b U j here-inside e)) (behind-completion ∙ sym (completion-free b U j here-inside e)) x l (omega (arith, raised e (getD ys j 0), behind-completion))
 
   pub later-pass : b < at U j .end → at U j .lo + at U j .span + w ≤ b → Later b U xs ys j w t
   later-pass e r =
-      let z : cond (ltb b needed) (completion-by b (drop (suc j) U)) 0 ≡ 0 = cond-false (ltb b needed) _ _ (le-ltb _ _ (omega (arith, same-work))) in
-      free e ys (down-same 0 (raised-by-later b U) xs (length U) ys k j (d .lows) s (omega (arith, raised e (getD ys j 0))))
+      let z : cond (ltb b needed) (completion-by b (drop (suc j) U)) 0 ≡ 0 = cond-false (ltb b needed) _ _ (le-ltb _ _ (omega (arith, behind-work))) in
+      pass-same _ _ _ U xs ys k w t j d s w t (behind-work ∙ sym (work-free b U j here-inside e)) (behind-completion ∙ sym (completion-free b U j here-inside e)) (omega (arith, raised e (getD ys j 0)))
 
 -- the pass up has come to place k
 pub record Earlier (b : ℕ) (U : List Task) (xs ys : List ℕ) (k r p : ℕ) : Type 0 where

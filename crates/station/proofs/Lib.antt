@@ -13,8 +13,10 @@ pub mod NotFirstExact
 pub mod Preserving
 pub mod Mirroring
 pub mod Rewriting
+pub mod Passes
 pub mod EdgesTurns
 pub mod NotFirstTurns
 pub mod Scattering
 pub mod Laws
 pub mod PairsTurns
+pub mod Reversing

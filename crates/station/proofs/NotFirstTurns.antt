@@ -6,15 +6,15 @@ use native.Mathlib.Omega.{arith}
 use lib.Dec.{ltb}
 use lib.ListN.{length, getD, drop, set}
 use lib.Seq.{drop-cons}
-use Rattle.std.proofs.shelf.Lists.{drop-all}
 use Rattle.std.proofs.shelf.Tests.{cond-true, cond-false, cond-both, and-from, and-left, and-right, le-leb, lt-leb, lt-ltb, le-ltb}
 use Rattle.station.specs.declared.task.Task.{Task}
 use Rattle.station.specs.EdgesPasses.{work-of}
 use Rattle.station.specs.Limits.{horizon, most-work}
-use Rattle.station.specs.NotFirstPasses.{complete-from, front, no-slack, raised-by-any, raised-by-sooner, slack}
+use Rattle.station.specs.NotFirstPasses.{complete-from, front, raised-by-any, raised-by-sooner, slack}
 use Rattle.station.specs.Tasks.{Fit, at, ect, no-task}
 use Rattle.station.proofs.NotFirstExact.{by-any, by-sooner, slack-no, slack-yes}
-use Rattle.station.proofs.Rewriting.{Down-to, Up-to, down-none, down-same, down-set, up-same, up-set}
+use Rattle.station.proofs.Passes.{Pass, inside, pass-same, pass-set, same-figure, same-work}
+use Rattle.station.proofs.Rewriting.{Up-to, up-same, up-set}
 use Rattle.station.proofs.Works.{span-no, span-yes, work-here}
 
 -- one place further down
@@ -32,58 +32,40 @@ module _ (e : ℕ) (U : List Task) (j : ℕ) (h : j < length U) where
   slack-past y = ap (slack e) (drop-cons U j no-task h) ∙ slack-no e (at U j) (drop (suc j) U) y
 
 -- the pass down has come to place k, from the bounds xs to ys
-pub record Sooner (e : ℕ) (U : List Task) (xs ys : List ℕ) (k w g : ℕ) : Type 0 where
-  pub within : k ≤ length U
-  pub work : w ≡ work-of (complete-from e) (drop k U)
-  pub slack-is : g ≡ slack e (drop k U)
-  pub lows : Down-to 0 (raised-by-sooner e U) xs (length U) ys k
-
-pub sooner-none : (e : ℕ) (U : List Task) (xs : List ℕ) → Sooner e U xs xs (length U) 0 no-slack
-sooner-none e U xs = record {
-  within = omega arith;
-  work = sym (ap (work-of (complete-from e)) (drop-all (length U) U (omega arith)));
-  slack-is = sym (ap (slack e) (drop-all (length U) U (omega arith)));
-  lows = down-none 0 (raised-by-sooner e U) xs (length U);
-}
+abbrev pub Sooner : ℕ → List Task → List ℕ → List ℕ → ℕ → ℕ → ℕ → Type 0
+Sooner e U xs ys k w g = Pass (work-of (complete-from e)) (slack e) (raised-by-sooner e U) U xs ys k w g
 
 module _ (e : ℕ) (U : List Task) (xs ys : List ℕ) (k w g j : ℕ) (d : Sooner e U xs ys k w g) (s : k ≡ suc j) where
-  inside : j < length U
-  inside = omega (arith, d .within)
+  here-inside : j < length U
+  here-inside = inside _ _ _ _ _ _ _ _ _ _ d s
 
-  same-work : w ≡ work-of (complete-from e) (drop (suc j) U)
-  same-work = d .work ∙ ap (λ (n : ℕ). work-of (complete-from e) (drop n U)) s
+  behind-work : w ≡ work-of (complete-from e) (drop (suc j) U)
+  behind-work = same-work _ _ _ _ _ _ _ _ _ _ d s
 
-  same-slack : g ≡ slack e (drop (suc j) U)
-  same-slack = d .slack-is ∙ ap (λ (n : ℕ). slack e (drop n U)) s
+  behind-slack : g ≡ slack e (drop (suc j) U)
+  behind-slack = same-figure _ _ _ _ _ _ _ _ _ _ d s
 
   pub sooner-pass : ect (at U j) < e → Sooner e U xs ys j w g
-  sooner-pass y = record {
-    within = omega (arith, inside);
-    work = same-work ∙ sym (work-no e U j inside y);
-    slack-is = same-slack ∙ sym (slack-past e U j inside y);
-    lows = down-same 0 (raised-by-sooner e U) xs (length U) ys k j (d .lows) s (sym (cond-false (by-sooner e U j) _ _ (and-left _ _ (lt-leb _ _ y))));
-  }
+  sooner-pass y =
+      pass-same _ _ _ U xs ys k w g j d s w g (behind-work ∙ sym (work-no e U j here-inside y)) (behind-slack ∙ sym (slack-past e U j here-inside y))
+      (sym (cond-false (by-sooner e U j) _ _ (and-left _ _ (lt-leb _ _ y))))
 
-  ready : e ≤ ect (at U j) → (zs : List ℕ) → Down-to 0 (raised-by-sooner e U) xs (length U) zs j → (r : ℕ) → r ≡ min g (at U j .end + most-work - (w + at U j .span)) → Sooner e U xs zs j (w + at U j .span) r
-  ready y zs lows r rg = record {
-    within = omega (arith, inside);
-    work = omega (arith, same-work, work-yes e U j inside y);
-    slack-is = omega (arith, same-work, same-slack, slack-ready e U j inside y);
-    lows = lows;
-  }
+  module _ (y : e ≤ ect (at U j)) (r : ℕ) (rg : r ≡ min g (at U j .end + most-work - (w + at U j .span))) where
+    more-work : w + at U j .span ≡ work-of (complete-from e) (drop j U)
+    more-work = omega (arith, behind-work, work-yes e U j here-inside y)
 
-  pub sooner-raise : e ≤ ect (at U j) → g < ect (at U j) + most-work → j < length ys → (x : ℕ) → x ≡ max (getD ys j 0) e → (r : ℕ) → r ≡ min g (at U j .end + most-work - (w + at U j .span)) → Sooner e U xs (set ys j x) j (w + at U j .span) r
-  sooner-raise y c l x xt =
-      ready y (set ys j x) (down-set 0 (raised-by-sooner e U) xs (length U) ys k j (d .lows) s x l
-      (xt ∙ sym (cond-true (by-sooner e U j) _ _ (and-from _ _ (le-leb _ _ y) (lt-ltb _ _ (omega (arith, same-slack)))))))
+    new-slack : r ≡ slack e (drop j U)
+    new-slack = omega (arith, behind-work, behind-slack, slack-ready e U j here-inside y)
 
-  pub sooner-keep : e ≤ ect (at U j) → ect (at U j) + most-work ≤ g → (r : ℕ) → r ≡ min g (at U j .end + most-work - (w + at U j .span)) → Sooner e U xs ys j (w + at U j .span) r
-  sooner-keep y c =
-      ready y ys (down-same 0 (raised-by-sooner e U) xs (length U) ys k j (d .lows) s
-      (sym (cond-false (by-sooner e U j) _ _ (and-right (complete-from e (at U j)) (ltb (slack e (drop (suc j) U)) (ect (at U j) + most-work)) (le-ltb _ _ (omega (arith, same-slack)))))))
+    pub sooner-raise : g < ect (at U j) + most-work → j < length ys → (x : ℕ) → x ≡ max (getD ys j 0) e → Sooner e U xs (set ys j x) j (w + at U j .span) r
+    sooner-raise c l x xt =
+        pass-set _ _ _ U xs ys k w g j d s (w + at U j .span) r more-work new-slack x l
+        (xt ∙ sym (cond-true (by-sooner e U j) _ _ (and-from _ _ (le-leb _ _ y) (lt-ltb _ _ (omega (arith, behind-slack))))))
 
-pub sooner-as : (e : ℕ) (U : List Task) (xs ys zs : List ℕ) (k w v g h : ℕ) → Sooner e U xs ys k w g → zs ≡ ys → v ≡ w → h ≡ g → Sooner e U xs zs k v h
-sooner-as e U xs ys zs k w v g h f a b c = rw (a, b, c) f
+    pub sooner-keep : ect (at U j) + most-work ≤ g → Sooner e U xs ys j (w + at U j .span) r
+    sooner-keep c =
+        pass-same _ _ _ U xs ys k w g j d s (w + at U j .span) r more-work new-slack
+        (sym (cond-false (by-sooner e U j) _ _ (and-right (complete-from e (at U j)) (ltb (slack e (drop (suc j) U)) (ect (at U j) + most-work)) (le-ltb _ _ (omega (arith, behind-slack))))))
 
 -- the second pass
 module _ (e : ℕ) (U : List Task) (xs ys : List ℕ) (k : ℕ) (d : Up-to 0 (raised-by-any e U) xs ys k) (f : ℕ) (fi : f ≡ front e (at U k)) (g : ℕ) (ge : g ≡ slack e U) where

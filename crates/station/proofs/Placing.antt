@@ -20,6 +20,9 @@ use Rattle.station.proofs.Pairwise.{pairwise-in, pairwise-sublist}
 use Rattle.station.proofs.Works.{work-kept, work-split}
 
 module _ (st : Task → ℕ) where
+  pub apart-turned : (x y : Task) → Apart st x y → Apart st y x
+  apart-turned x y a = ⊎-elim (λ (z : st x + x .span ≤ st y). inr z) (λ (z : st y + y .span ≤ st x). inl z) a
+
   pub takes : (n : ℕ) (S : List Task) → length S ≤ n → Pairwise (Apart st) S → (a b : ℕ) → a ≤ b → All (λ t. a ≤ st t) S → All (λ t. st t + t .span ≤ b) S → a + work S ≤ b
   takes n [] l d a b h f g = omega arith
   takes zero (t ∷ S) l d a b h f g = absurd (omega arith)
@@ -66,7 +69,7 @@ module _ (st : Task → ℕ) where
           let o : not (eqb (s .job) (i .job)) ≡ true = all-in (λ t. not (eqb (t .job) (i .job)) ≡ true) (in-sublist k s n) (kept-by-passes (λ t. not (eqb (t .job) (i .job))) L) in
           ⊎-elim
           (λ (a : Apart st i s). a)
-          (λ (a : Apart st s i). ⊎-elim (λ (z : st s + s .span ≤ st i). inr z) (λ (z : st i + i .span ≤ st s). inl z) a)
+          (λ (a : Apart st s i). apart-turned s i a)
           (pairwise-in (Apart st) (p .apart) i s m (in-sublist (sublist-trans (sublist-kept _ L) k) s n) (λ e. eqb-false _ _ (not-true _ o) (sym e))))
 
       pub with-takes : {S : List Task} → Sublist S (others i L) → (a b : ℕ) → a ≤ st i → st i + i .span ≤ b → All (λ t. a ≤ st t) S → All (λ t. st t + t .span ≤ b) S → a + work (i ∷ S) ≤ b

@@ -9,10 +9,9 @@ ghost use Rattle.station.specs.Sets.{any};
 ghost use Rattle.station.specs.Edges.{edges-overloaded, edges-earliest, edges-limit};
 ghost use Rattle.station.specs.EdgesPasses.{work-of, ends-by, completion-by, raised-by-later, raised-by-earlier, raised-by-both, raised-by-all, passes-end};
 use crate::kernel::Kernel;
-use crate::kernel::own_starts;
 use crate::order::ByStart;
 use crate::order::ByStartOrder;
-use crate::order::sort;
+use crate::order::sort_starts;
 use crate::task::Task;
 
 /// A task that has to end after, or to start before, all of a set of others does so.
@@ -103,8 +102,7 @@ pub impl Kernel for EdgeFinding as EdgeFindingKernel {
     ghost limit = { edges-limit };
 
     fn raise(tasks: &mut [Task], lows: &mut [u32]) -> bool {
-        sort::<ByStart>(tasks);
-        own_starts(tasks, lows);
+        sort_starts::<ByStart>(tasks, lows);
         raise_by_all(tasks, lows)
     }
 }

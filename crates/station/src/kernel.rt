@@ -34,16 +34,6 @@ pub trait Kernel {
         ensures raised { λ r. ⌜ (r ≡ false → (q : ℕ) → q < length (now (tasks .entry)) → getD (now (lows .exit)) q 0 ≡ earliest (at (now (tasks .exit)) q) (now (tasks .entry))) ⌝ };
 }
 
-/// The first starts as they are.
-pub fn own_starts(tasks: &[Task], lows: &mut [u32])
-    requires len { ⌜ length (now lows) ≡ length (now tasks) ⌝ }
-    ensures { λ _. ⌜ ((q : ℕ) → q < length (now (tasks .entry)) → getD (now (lows .exit)) q 0 ≡ at (now (tasks .entry)) q .lo) ⌝ }
-{
-    for q in 0..tasks.len() {
-        lows[q] = tasks[q].lo;
-    }
-}
-
 // Writes the values of the tasks to `out` by job number.
 fn scatter(tasks: &[Task], values: &[u32], out: &mut [u32])
     requires formed { ⌜ Formed (now tasks) ⌝ }

@@ -7,12 +7,11 @@ ghost use Rattle.station.specs.Tasks.{at, Fit, Formed};
 ghost use Rattle.station.specs.NotFirst.{not-first-earliest, not-first-limit};
 ghost use Rattle.station.specs.NotFirstPasses.{slack as least-slack, front, raised-by-sooner, raised-by-any, raised-from-all};
 use crate::kernel::Kernel;
-use crate::kernel::own_starts;
 use crate::limits::HORIZON;
 use crate::limits::MOST_WORK;
 use crate::order::ByEndFalling;
 use crate::order::ByEndFallingOrder;
-use crate::order::sort;
+use crate::order::sort_starts;
 use crate::task::Task;
 
 /// A task that cannot come before, or after, all of a set of others comes after, or before, one of them.
@@ -89,8 +88,7 @@ pub impl Kernel for NotFirstNotLast as NotFirstNotLastKernel {
     ghost limit = { not-first-limit };
 
     fn raise(tasks: &mut [Task], lows: &mut [u32]) -> bool {
-        sort::<ByEndFalling>(tasks);
-        own_starts(tasks, lows);
+        sort_starts::<ByEndFalling>(tasks, lows);
         raise_from_all(tasks, lows);
         false
     }

@@ -12,3 +12,11 @@ pub struct Task {
     /// The job's number.
     pub job: usize,
 }
+
+/// A place for a task that is not filled yet.
+pub const BLANK_TASK: Task = Task {
+    lo: 0,
+    span: 0,
+    end: 0,
+    job: 0,
+};

@@ -1,10 +1,11 @@
 -- One job more has its entered window in each turn.
 use native.Mathlib.Omega.{arith}
 use mathlib.Core.Path.{_≡_, sym, ap, _∙_}
-use mathlib.Core.List.{List, map}
-use lib.ListN.{length, take}
+use mathlib.Core.List.{map}
+use lib.ListN.{length, set, take}
+use Prim.Native.Nat.{_+_}
 use Rattle.std.proofs.shelf.Lists.{take-all}
-use Rattle.sheet.specs.declared.records.Job.{Job}
+use Rattle.sheet.specs.declared.records.Window.{Window}
 use Rattle.sheet.specs.Entries.{job-of}
 use Rattle.sheet.specs.Sheets.{entries}
 use Rattle.search.specs.Entered.{entered-window}
@@ -15,7 +16,8 @@ use Rattle.search.proofs.entered.enter_windows.Needs as need
 pub loop-i-again : need.loop-i-again
 loop-i-again c =
     let n : length (c .jobs-jobs .result .now) ≡ length (entries (c .args .sheet .now) .jobs) = ap length (c .jobs-jobs .ensures) in
-    filled-more entered-window (job-of 0 0 0 0) (c .jobs-jobs .result .now) (c .loop-i .windows) (c .loop-i .i) (omega (arith, c .pre)) (omega arith) (c .loop-i .inv)
+    ap (λ (w : Window). take (c .loop-i .i + 1) (set (c .loop-i .windows) (c .loop-i .i) w)) (c .entered-window .ensures)
+    ∙ filled-more entered-window (job-of 0 0 0 0) (c .jobs-jobs .result .now) (c .loop-i .windows) (c .loop-i .i) (omega (arith, c .pre)) (omega arith) (c .loop-i .inv)
 
 pub returns : need.returns
 returns c =

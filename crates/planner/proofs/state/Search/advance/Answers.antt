@@ -1,5 +1,5 @@
 -- An accepted advance keeps the promise, by the laws of the pile.
-use mathlib.Core.Path.{_≡_, refl, ap, _∙_}
+use mathlib.Core.Path.{refl}
 use borrow.Author.Needs.{needs}
 use Rattle.sheet.proofs.Soundness.{sheet-sound}
 use Rattle.search.proofs.Promised.{keeps-promise}

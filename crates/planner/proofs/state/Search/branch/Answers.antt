@@ -1,8 +1,6 @@
 -- By the laws of the pile the narrowed windows are well formed, and a job that is split has a place on the path.
 use mathlib.Core.Path.{refl}
-use mathlib.Core.List.{List}
 use native.Mathlib.Omega.{arith}
-use Prim.Native.Nat.{ℕ}
 use lib.ListN.{length}
 use Rattle.sheet.proofs.Soundness.{sheet-sound}
 use Rattle.rule.specs.Laws.{Lawful}

@@ -1,6 +1,6 @@
 -- One look fewer is left after each turn, and a settled search has none to make.
 use Prim.Native.Nat.{_+_, _-_, suc}
-use mathlib.Core.Path.{_≡_, refl, sym, _∙_, ap}
+use mathlib.Core.Path.{_≡_, sym, _∙_, ap}
 use mathlib.Core.List.{List}
 use native.Mathlib.Omega.{arith}
 use lib.ListN.{length, take}

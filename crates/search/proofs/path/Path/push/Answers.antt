@@ -1,8 +1,7 @@
 -- There is a place left, and the decision in it is the newest.
 use native.Mathlib.Omega.{arith}
 use borrow.Author.Needs.{needs}
-use lib.ListN.{length, length-set}
-use Prim.Native.Nat.{_<_}
+use lib.ListN.{length-set}
 use Rattle.search.proofs.Placing.{newest-length, newest-written}
 use Rattle.search.proofs.path.Path.push.Needs as need
 

@@ -1,35 +1,24 @@
 -- What is left to show of `raise`.
-use mathlib.Core.Path.{_≡_, refl, sym, ap, _∙_}
+use mathlib.Core.Path.{refl, _∙_}
 use Prim.Native.Nat.{_≤_}
 use native.Mathlib.Omega.{arith}
-use lib.ListN.{length}
 use Rattle.std.proofs.shelf.Tests.{ltb-false}
 use Rattle.std.proofs.shelf.Sorted.{length-shuffled}
-use Rattle.station.specs.Tasks.{at}
 use Rattle.station.proofs.Pairwise.{pairwise-from}
-use Rattle.station.proofs.Shuffles.{same-shuffled, formed-shuffled}
-use Rattle.station.proofs.NotFirstExact.{Falling, not-first-exact}
+use Rattle.station.proofs.Shuffles.{same-shuffled}
+use Rattle.station.proofs.NotFirstExact.{not-first-exact}
 use Rattle.station.proofs.not_first.NotFirstNotLastKernel.raise.Needs as need
-
-pub own-starts-requires : need.own-starts-requires
-own-starts-requires c κs = record { len = omega (arith, c .pre .len, length-shuffled _ _ (c .sort .ensures .shuffled)) }
-
-pub raise-from-all-requires : need.raise-from-all-requires
-raise-from-all-requires c κs = record {
-  formed = formed-shuffled _ _ (c .sort .ensures .shuffled) (c .pre .formed);
-  len = omega (arith, c .pre .len, c .own-starts .kept .lows, length-shuffled _ _ (c .sort .ensures .shuffled));
-  starts = c .own-starts .ensures;
-}
 
 pub returns : need.returns
 returns c =
-    let L = c .args .tasks .now in
-    let U = c .sort .last .tasks in
-    let s = c .sort .ensures .shuffled in
-    let n : length U ≡ length L = length-shuffled L U s in
-    let falling : Falling U = pairwise-from (λ s t. t .end ≤ s .end) U (λ j k h l. ltb-false _ _ (c .sort .ensures .ordered j k h (omega arith))) in
+    let sorted = c .sort-starts .ensures in
+    let U = c .sort-starts .last .tasks in
     record {
       load = refl;
-      shuffled = s;
-      raised = λ r q h. c .raise-from-all .ensures q (omega arith) ∙ not-first-exact L U (same-shuffled L U s) (c .pre .formed) (formed-shuffled L U s (c .pre .formed)) falling q (omega arith);
+      shuffled = sorted .shuffled;
+      raised = λ r q h.
+          let k = length-shuffled _ _ (sorted .shuffled) in
+          c .raise-from-all .ensures q (omega arith) ∙
+          not-first-exact _ U (same-shuffled _ U (sorted .shuffled)) (c .pre .formed) (sorted .formed)
+          (pairwise-from (λ s t. t .end ≤ s .end) U (λ j k h l. ltb-false _ _ (sorted .ordered j k h l))) q (omega arith);
     }

@@ -6,11 +6,12 @@ use Prim.Native.Nat.{ℕ, zero, suc, _+_, _<_}
 use native.Mathlib.Nat.{le-of-suc-le-suc, not-suc-le-zero}
 use native.Mathlib.Omega.{arith}
 use lib.Dec.{eqb}
-use lib.ListN.{length}
+use lib.ListN.{length, take}
 use Rattle.std.proofs.shelf.Tests.{cond-both, cond-true, eqb-true, eq-eqb}
+use Rattle.std.proofs.shelf.Lists.{take-more}
 use Rattle.sheet.specs.declared.records.Link.{Link}
-use Rattle.sheet.specs.Entries.{link}
-use Rattle.route.specs.Route.{tightest}
+use Rattle.sheet.specs.Entries.{link, link-of}
+use Rattle.rule.specs.Tightest.{tightest}
 
 module _ (tighter : ℕ → ℕ → ℕ) (at bound : Link → ℕ) (own : ℕ → ℕ) where
   -- what the job's own bound has, and no other bound takes away
@@ -41,7 +42,12 @@ module _ (tighter : ℕ → ℕ → ℕ) (at bound : Link → ℕ) (own : ℕ �
     cond-swap false true x y z = refl
     cond-swap false false x y z = refl
 
-    pub tightest-push : (ls : List Link) (l : Link) (k : ℕ) → tightest tighter at bound own (ls ++ (l ∷ [])) k ≡ cond (eqb (at l) k) (tighter (bound l) (tightest tighter at bound own ls k)) (tightest tighter at bound own ls k)
+    tightest-push : (ls : List Link) (l : Link) (k : ℕ) → tightest tighter at bound own (ls ++ (l ∷ [])) k ≡ cond (eqb (at l) k) (tighter (bound l) (tightest tighter at bound own ls k)) (tightest tighter at bound own ls k)
     tightest-push [] l k = refl
     tightest-push (m ∷ ls) l k =
         ap (λ (x : ℕ). cond (eqb (at m) k) (tighter (bound m) x) x) (tightest-push ls l k) ∙ cond-swap (eqb (at m) k) (eqb (at l) k) _ _ _
+
+    -- by one link more
+    pub tightest-more : (ls : List Link) (i k : ℕ) → i < length ls → tightest tighter at bound own (take (i + 1) ls) k ≡ cond (eqb (at (link ls i)) k) (tighter (bound (link ls i)) (tightest tighter at bound own (take i ls) k)) (tightest tighter at bound own (take i ls) k)
+    tightest-more ls i k h =
+        ap (λ (ms : List Link). tightest tighter at bound own ms k) (take-more ls i (link-of 0 0 0) h) ∙ tightest-push (take i ls) (link ls i) k

@@ -1,0 +1,4 @@
+-- The lemmas of this crate.
+pub mod Gathered
+pub mod Lawfulness
+pub mod Running

@@ -1,0 +1,2 @@
+-- Lemmas of Drying.
+pub mod Links

@@ -1,0 +1,2 @@
+-- What the contracts of Drying cite.
+pub mod Drying

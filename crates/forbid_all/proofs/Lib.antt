@@ -1,0 +1,2 @@
+-- Lemmas of ForbidAll.
+pub mod Single

@@ -1,0 +1,2 @@
+-- What the contracts of ForbidAll cite.
+pub mod ForbidAll

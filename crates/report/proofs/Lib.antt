@@ -1,0 +1,2 @@
+-- Lemmas of reports.
+pub mod Planned

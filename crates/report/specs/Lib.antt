@@ -1,0 +1,2 @@
+-- What the contracts of reports cite.
+pub mod Planning
