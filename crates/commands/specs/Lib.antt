@@ -4,3 +4,4 @@ pub mod Commands
 pub mod Laws
 pub mod Buffers
 pub mod Replies
+pub mod Responding

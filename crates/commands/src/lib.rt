@@ -3,4 +3,5 @@ pub mod buffer;
 pub mod command;
 pub mod lines;
 pub mod reply;
+pub mod responding;
 mod word;
