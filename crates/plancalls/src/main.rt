@@ -34,8 +34,8 @@ fn main(rt: LibcRuntime) -> io::Result<()> {
     let mut planner = Planner::new(Route);
     let mut line = LineBuffer::new();
     let mut input = rt.stdin();
-    let mut chunk = [0u8; CHUNK];
     for _ in 0..u64::MAX {
+        let mut chunk = [0u8; CHUNK];
         let count = input.read(&mut chunk)?;
         if count == 0 {
             break;
