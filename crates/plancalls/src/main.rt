@@ -3,9 +3,14 @@ use calls::planner::Planner;
 use commands::buffer::LineBuffer;
 use commands::reply::ReplyDisplay;
 use commands::responding::respond;
-use route::Route;
+use disjunctive::edges::EdgesRule;
+use disjunctive::not_first::NotFirstRule;
+use disjunctive::pairs::PairsRule;
+use house::pile::HOUSE_PILE;
 use route::RouteRule;
+use rule::both::BothRule;
 use rule::narrowing::Rule;
+use rule::standstill::StandstillRule;
 use std::io;
 use std::io::Read;
 
@@ -31,7 +36,7 @@ fn answer_lines<P: Rule + Drop>(
 }
 
 fn main(rt: LibcRuntime) -> io::Result<()> {
-    let mut planner = Planner::new(Route);
+    let mut planner = Planner::new(HOUSE_PILE);
     let mut line = LineBuffer::new();
     let mut input = rt.stdin();
     for _ in 0..u64::MAX {

@@ -1,0 +1,2 @@
+-- Lemmas of the house.
+pub mod Working
