@@ -1,0 +1,4 @@
+-- Lemmas on lines and calls.
+pub mod Wording
+pub mod Law
+pub mod Buffering
