@@ -1,5 +1,5 @@
 -- What a line is read as is what its text says, both ways.
-use Prim.Native.Nat.{ℕ, suc, _+_, _*_, _^_, _<_, _≤_}
+use Prim.Native.Nat.{ℕ, _+_, _*_, _^_, _<_, _≤_}
 use mathlib.Core.Path.{_≡_, refl, sym, ap, subst, _∙_}
 use mathlib.Core.Bool.{true}
 use mathlib.Core.List.{List, [], _∷_, _++_}
@@ -25,7 +25,7 @@ use Rattle.commands.specs.declared.word.Word.{Word}
 use Rattle.commands.specs.Words.{word-text, word-of, arity}
 use Rattle.commands.specs.Commands.{most-digits, call-from, call-with, with-numbers, bare, if-word, by-parts, command}
 use Rattle.commands.specs.Laws.{call-word, call-numbers, text-of, Writes, Command-law}
-use Rattle.commands.proofs.Wording.{word-is, word-of-text, word-length, word-without-space, call-back, call-arity, word-back, numbers-back, arity-few}
+use Rattle.commands.proofs.Wording.{word-is, seen, word-without-space, call-back, word-back, numbers-back}
 
 reads-32-bits : Reads (number-32 most-digits) (2 ^ 32)
 reads-32-bits = number-32-reads most-digits (omega arith) (omega arith) (omega arith)
@@ -35,15 +35,15 @@ text-is-read : (x : Word) (ns : List ℕ) → length ns ≡ arity x → All-belo
 text-is-read x [] e s =
     let a : split space (word-text x ++ []) ≡ last (word-text x) = ap (split space) (append-nil (word-text x)) ∙ split-last space (word-text x) (word-without-space x) in
     let b : eqb (arity x) 0 ≡ true = eq-eqb (arity x) 0 (sym e) in
-    ap by-parts a ∙ ap (λ (o : Option Word). if-word o bare) (word-of-text x) ∙ (rw b)
+    ap by-parts a ∙ ap (λ (o : Option Word). if-word o bare) (seen x .read-back) ∙ (rw b)
 text-is-read x (n ∷ ns) e s =
     let a : split space (word-text x ++ (space ∷ (decimal n ++ spaced ns))) ≡ next (word-text x) (split space (decimal n ++ spaced ns)) = split-next space (word-text x) (decimal n ++ spaced ns) (word-without-space x) in
-    ap by-parts a ∙ ap (λ (o : Option Word). if-word o (λ y. with-numbers y (split space (decimal n ++ spaced ns)))) (word-of-text x)
+    ap by-parts a ∙ ap (λ (o : Option Word). if-word o (λ y. with-numbers y (split space (decimal n ++ spaced ns)))) (seen x .read-back)
     ∙ ap (λ (k : ℕ). call-with x (numbers (number-32 most-digits) k (split space (decimal n ++ spaced ns)))) (sym e)
     ∙ ap (call-with x) (numbers-spaced (2 ^ 32) (number-32 most-digits) reads-32-bits n ns s)
 
 pub call-is-read : (line : List ℕ) (c : Call) → Writes line c → command line ≡ Some c
-call-is-read line c w = ap command (w .0) ∙ text-is-read (call-word c) (call-numbers c) (call-arity c) (w .1) ∙ ap (λ (d : Call). Some d) (call-back c)
+call-is-read line c w = ap command (w .0) ∙ text-is-read (call-word c) (call-numbers c) (call-back c .1) (w .1) ∙ ap (λ (d : Call). Some d) (call-back c .0)
 
 -- what is read is a text
 writes-from-numbers : (line : List ℕ) (x : Word) (ns : List ℕ) → line ≡ word-text x ++ spaced ns → length ns ≡ arity x → All-below (2 ^ 32) ns → Writes line (call-from x ns)
@@ -99,10 +99,9 @@ spaced-length (n ∷ ns) s =
 text-length : (c : Call) → All-below (2 ^ 32) (call-numbers c) → length (text-of c) ≤ 51
 text-length c s =
     let a = length-append (word-text (call-word c)) (spaced (call-numbers c)) in
-    let w = word-length (call-word c) in
+    let w = seen (call-word c) in
     let n = spaced-length (call-numbers c) s in
-    let k = call-arity c in
-    let f = arity-few (call-word c) in
+    let k = call-back c .1 in
     omega arith
 
 pub long-is-ill-written : (line : List ℕ) → 51 < length line → command line ≡ None

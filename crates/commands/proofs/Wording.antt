@@ -1,7 +1,7 @@
 -- Words and their numbers, and the calls that they make.
 use Prim.Native.Nat.{ℕ, _≤_}
-use mathlib.Core.Path.{_≡_, refl, sym, ap}
-use mathlib.Core.Bool.{Bool, true, cond, _&&_}
+use mathlib.Core.Path.{_≡_, refl, sym}
+use mathlib.Core.Bool.{Bool, true, _&&_}
 use mathlib.Core.List.{List, [], _∷_}
 use native.Mathlib.Omega.{arith}
 use lib.Dec.{ltb}
@@ -10,8 +10,7 @@ use Rattle.std.proofs.shelf.Equals.{sameBytes-decides}
 use Rattle.std.proofs.shelf.Lists.{nil-from-length}
 use Rattle.std.proofs.shelf.Tests.{cond-both, and-parts, ltb-true}
 use Rattle.std.specs.shelf.Text.{sameBytes}
-use Rattle.std.specs.declared.option.Option.{Option}
-use Rattle.std.specs.declared.option.Option.the-variants.{Some, None}
+use Rattle.std.specs.declared.option.Option.the-variants.{Some}
 use Rattle.text.specs.Bytes.{space}
 use Rattle.text.specs.Splitting.{Without}
 use Rattle.text.proofs.Options.{none-some, some-same}
@@ -34,24 +33,6 @@ word-among-is (y ∷ ys) bs x =
 pub word-is : (bs : List ℕ) (x : Word) → word-of bs ≡ Some x → bs ≡ word-text x
 word-is bs x q = word-among-is (Enter ∷ (Link ∷ (Move ∷ (Close ∷ (Advance ∷ (Start ∷ (Reopen ∷ []))))))) bs x q
 
-pub word-of-text : (x : Word) → word-of (word-text x) ≡ Some x
-word-of-text Enter = refl
-word-of-text Link = refl
-word-of-text Move = refl
-word-of-text Close = refl
-word-of-text Advance = refl
-word-of-text Start = refl
-word-of-text Reopen = refl
-
-pub word-length : (x : Word) → length (word-text x) ≤ 7
-word-length Enter = omega arith
-word-length Link = omega arith
-word-length Move = omega arith
-word-length Close = omega arith
-word-length Advance = omega arith
-word-length Start = omega arith
-word-length Reopen = omega arith
-
 abbrev all-above : ℕ → List ℕ → Bool
 all-above n [] = true
 all-above n (b ∷ bs) = ltb n b && all-above n bs
@@ -63,36 +44,34 @@ without-from-above n (b ∷ bs) e =
     let l = ltb-true n b (p .0) in
     (λ w. absurd (omega arith), without-from-above n bs (p .1))
 
-letters : (x : Word) → all-above space (word-text x) ≡ true
-letters Enter = refl
-letters Link = refl
-letters Move = refl
-letters Close = refl
-letters Advance = refl
-letters Start = refl
-letters Reopen = refl
+-- what is seen of each word by computing: its text is read as it, is short and has no space, and few numbers follow
+pub record Seen (x : Word) : Type 0 where
+  pub read-back : word-of (word-text x) ≡ Some x
+  pub short : length (word-text x) ≤ 7
+  pub above-space : all-above space (word-text x) ≡ true
+  pub few : arity x ≤ 4
+
+pub seen : (x : Word) → Seen x
+seen Enter = record { read-back = refl; short = omega arith; above-space = refl; few = omega arith }
+seen Link = record { read-back = refl; short = omega arith; above-space = refl; few = omega arith }
+seen Move = record { read-back = refl; short = omega arith; above-space = refl; few = omega arith }
+seen Close = record { read-back = refl; short = omega arith; above-space = refl; few = omega arith }
+seen Advance = record { read-back = refl; short = omega arith; above-space = refl; few = omega arith }
+seen Start = record { read-back = refl; short = omega arith; above-space = refl; few = omega arith }
+seen Reopen = record { read-back = refl; short = omega arith; above-space = refl; few = omega arith }
 
 pub word-without-space : (x : Word) → Without space (word-text x)
-word-without-space x = without-from-above space (word-text x) (letters x)
+word-without-space x = without-from-above space (word-text x) (seen x .above-space)
 
 -- a call by its word and its numbers, and back
-pub call-back : (c : Call) → call-from (call-word c) (call-numbers c) ≡ c
-call-back (call.Enter s p r d) = refl
-call-back (call.Link a b w) = refl
-call-back (call.Move k r d) = refl
-call-back call.Close = refl
-call-back (call.Advance n) = refl
-call-back (call.Start k) = refl
-call-back call.Reopen = refl
-
-pub call-arity : (c : Call) → length (call-numbers c) ≡ arity (call-word c)
-call-arity (call.Enter s p r d) = refl
-call-arity (call.Link a b w) = refl
-call-arity (call.Move k r d) = refl
-call-arity call.Close = refl
-call-arity (call.Advance n) = refl
-call-arity (call.Start k) = refl
-call-arity call.Reopen = refl
+pub call-back : (c : Call) → (call-from (call-word c) (call-numbers c) ≡ c) × (length (call-numbers c) ≡ arity (call-word c))
+call-back (call.Enter s p r d) = (refl, refl)
+call-back (call.Link a b w) = (refl, refl)
+call-back (call.Move k r d) = (refl, refl)
+call-back call.Close = (refl, refl)
+call-back (call.Advance n) = (refl, refl)
+call-back (call.Start k) = (refl, refl)
+call-back call.Reopen = (refl, refl)
 
 pub word-back : (x : Word) (ns : List ℕ) → call-word (call-from x ns) ≡ x
 word-back Enter ns = refl
@@ -116,12 +95,3 @@ numbers-back Close ns e = sym (nil-from-length ns e)
 numbers-back Advance ns e = sym (one-place ns e)
 numbers-back Start ns e = sym (one-place ns e)
 numbers-back Reopen ns e = sym (nil-from-length ns e)
-
-pub arity-few : (x : Word) → arity x ≤ 4
-arity-few Enter = omega arith
-arity-few Link = omega arith
-arity-few Move = omega arith
-arity-few Close = omega arith
-arity-few Advance = omega arith
-arity-few Start = omega arith
-arity-few Reopen = omega arith

@@ -12,9 +12,9 @@ use Rattle.calls.specs.declared.call.Answer.the-variants.{Number, Refused, Clos
 use Rattle.commands.specs.declared.reply.Reply.{Reply}
 use Rattle.commands.specs.declared.reply.Reply.the-variants.{Answered, IllWritten}
 
--- 0 is open, 1 found, 2 impossible
+-- an advance answers one of the three numbers
 abbrev pub outcome-word : ℕ → List ℕ
-outcome-word o = cond (eqb o 0) (codes "open") (cond (eqb o 1) (codes "found") (codes "impossible"))
+outcome-word o = cond (eqb o 0) (codes "open") (cond (eqb o 1) (codes "found") (cond (eqb o 2) (codes "impossible") (codes "unknown")))
 
 abbrev pub answer-text : Answer → List ℕ
 answer-text (Number n) = decimal n

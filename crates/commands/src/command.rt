@@ -2,9 +2,7 @@
 ghost use mathlib.Core.Path.{_≡_};
 ghost use Rattle.text.specs.Bytes.{space};
 ghost use Rattle.text.specs.Splitting.{split};
-ghost use Rattle.text.specs.Numbers.{number-32};
-ghost use Rattle.text.specs.Spaced.{numbers};
-ghost use Rattle.commands.specs.Commands.{most-digits, call-with, with-numbers, bare, command};
+ghost use Rattle.commands.specs.Commands.{with-numbers, bare, command};
 ghost use Rattle.commands.specs.Laws.{Command-law};
 ghost use Rattle.commands.specs.declared.word.Word.the-variants as word;
 use crate::word::Word;

@@ -14,7 +14,7 @@ pub enum Reply {
     IllWritten,
 }
 
-/// The word for an outcome's number.
+/// The word for an outcome's number, of which there are three.
 fn outcome_word(outcome: u32) -> &'static str
     ensures { λ r. ⌜ now r ≡ outcome-word outcome ⌝ }
 {
@@ -22,8 +22,10 @@ fn outcome_word(outcome: u32) -> &'static str
         "open"
     } else if outcome == 1 {
         "found"
-    } else {
+    } else if outcome == 2 {
         "impossible"
+    } else {
+        "unknown"
     }
 }
 

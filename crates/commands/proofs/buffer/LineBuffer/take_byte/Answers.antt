@@ -1,13 +1,13 @@
 -- A byte that is no line end is the next of its line.
 use mathlib.Core.Path.{_≡_, sym, ap, _∙_}
-use mathlib.Core.Bool.{false, cond}
+use mathlib.Core.Bool.{false}
 use mathlib.Core.List.{List}
 use Prim.Native.Nat.{ℕ}
 use lib.Dec.{eqb}
 use Rattle.std.proofs.shelf.Tests.{ne-eqb}
 use Rattle.std.specs.declared.option.Option.{Option}
 use Rattle.text.specs.Bytes.{line-end}
-use Rattle.commands.specs.Buffers.{held, longer}
+use Rattle.commands.specs.Buffers.{longer}
 use Rattle.commands.proofs.Buffering.{longer-kept}
 use Rattle.commands.proofs.buffer.LineBuffer.take_byte.Needs as need
 
