@@ -1,0 +1,2 @@
+-- The worked figures.
+pub mod Figures
