@@ -5,7 +5,7 @@ use mathlib.Core.Bool.{true}
 use Prim.Native.Nat.{ℕ}
 use native.Mathlib.Omega.{arith}
 use Rattle.sheet.specs.declared.records.Window.{Window}
-use Rattle.rule.specs.declared.verdict.Verdict.the-variants.{Alive, Dead}
+use Rattle.rule.specs.declared.verdict.Verdict.the-variants.{Alive}
 use Rattle.rule.specs.Windows.{formed, Inside}
 use Rattle.rule.specs.Cuts.{Cut, dead, live, verdict-of, left, then-cut}
 use Rattle.rule.specs.Laws.{Keeps, Lawful}
@@ -22,10 +22,6 @@ then-keeps (live vs) f t k n = n vs refl k
 pub alive-live : (c : Cut) (ws : List Window) → verdict-of c ≡ Alive → c ≡ live (left c ws)
 alive-live dead ws e = let z : _≡_ {A = ℕ} 0 1 = cc in absurd (omega arith)
 alive-live (live vs) ws e = refl
-
-pub dead-dead : (c : Cut) → verdict-of c ≡ Dead → c ≡ dead
-dead-dead dead e = refl
-dead-dead (live vs) e = let z : _≡_ {A = ℕ} 0 1 = cc in absurd (omega arith)
 
 -- what a rule that is not dead leaves is well formed
 pub left-formed : {n : ℕ} {admits : List ℕ → Type 0} {cut : List Window → Cut} → Lawful n admits cut → (ws : List Window) → formed n ws ≡ true → verdict-of (cut ws) ≡ Alive → formed n (left (cut ws) ws) ≡ true

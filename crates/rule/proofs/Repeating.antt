@@ -119,14 +119,6 @@ module _ (f : List Window → Cut) (jobs : ℕ) (one : (ws vs : List Window) →
       let l : width vs < width ws = width-less vs ws w t in
       ap (λ (c : Cut). then-cut c (λ us. cond (same us ws) (live us) (repeated-for f (width ws) us))) e ∙ cond-false _ _ _ t ∙ repeated-enough (width ws) (suc (width vs)) vs (within-formed vs ws a w) l (omega arith)
 
-  -- the last turn
-  pub repeated-last : (ws vs : List Window) → f ws ≡ live vs → same vs ws ≡ true → repeated f ws ≡ live vs
-  repeated-last ws vs e t =
-      ap (λ (c : Cut). then-cut c (λ us. cond (same us ws) (live us) (repeated-for f (width ws) us))) e ∙ cond-true _ _ _ t
-
-  pub repeated-dead : (ws : List Window) → f ws ≡ dead → repeated f ws ≡ dead
-  repeated-dead ws e = ap (λ (c : Cut). then-cut c (λ us. cond (same us ws) (live us) (repeated-for f (width ws) us))) e
-
   pub repeated-keeps : (t : List ℕ) → ((ws : List Window) → Formed jobs ws → Inside t ws → Keeps (f ws) t) → (n : ℕ) (ws : List Window) → Formed jobs ws → Inside t ws → Keeps (repeated-for f n ws) t
   repeated-keeps t k zero ws a i = i
   repeated-keeps t k (suc n) ws a i =

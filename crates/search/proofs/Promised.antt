@@ -13,7 +13,7 @@ use Rattle.rule.specs.Laws.{Lawful}
 use Rattle.search.specs.declared.decision.Decision.{Decision}
 use Rattle.search.specs.Entered.{entered-windows}
 use Rattle.search.specs.Looks.{State, opened, found, impossible, path-of, one-look, after-looks, looks-made}
-use Rattle.search.specs.Promise.{enough-looks, Promise, Promised, Keeps-promise, reports, total}
+use Rattle.search.specs.Promise.{enough-looks, Promise, Keeps-promise, reports, total}
 use Rattle.search.proofs.Looking.{entered-formed, Good, start-good, run-good, good-few, good-grown, look-left}
 use Rattle.search.proofs.Rows.{composes, after-add, made-add, made-within, open-spent}
 use Rattle.search.proofs.Depth.{path-short}
@@ -50,11 +50,7 @@ module _ {admits : List ℕ → Type 0} {cut : List Window → Cut} (e : Entries
       subst (λ (x : State). Promise admits e g m x) (sym q)
       (subst (λ (k : ℕ). Promise admits e g k (after-looks (one-look cut e) g (opened []))) (sym p) (promised-once g))
 
-  -- the promise of every row of advances since the close
-  pub promised : Promised admits cut e
-  promised gs = let c = composes (one-look cut e) gs (opened []) in promise-at (total gs) _ _ (c .1) (c .0)
-
-  -- and of one advance more, from whatever search such a row led to
+  -- the promise of one advance more, from whatever search a row of advances led to
   pub keeps-promise : (x : State) (g m : ℕ) (y : State) → y ≡ after-looks (one-look cut e) g x → m ≡ looks-made (one-look cut e) g x → Keeps-promise admits cut e x g m y
   keeps-promise x g m y p q gs h =
       let f = one-look cut e in

@@ -51,12 +51,6 @@ total (g ∷ gs) = g + total gs
 abbrev pub Composes : (List Decision → State) → Type 0
 Composes f = (gs : List ℕ) (s : State) → (advances f gs s ≡ after-looks f (total gs) s) × (reports f gs s ≡ looks-made f (total gs) s)
 
--- the promise of a search, over every row of advances since it was closed
-abbrev pub Promised : (List ℕ → Type 0) → (List Window → Cut) → Entries → Type 0
-Promised admits cut e =
-    (gs : List ℕ)
-    → Promise admits e (total gs) (reports (one-look cut e) gs (opened [])) (advances (one-look cut e) gs (opened []))
-
 -- the promise of one advance by g looks that reported m, from the search x to the search y:
 -- whatever row of advances led from the close to x
 abbrev pub Keeps-promise : (List ℕ → Type 0) → (List Window → Cut) → Entries → State → ℕ → ℕ → State → Type 0

@@ -17,7 +17,7 @@ use Rattle.sheet.specs.declared.records.Link.{Link}
 use Rattle.sheet.specs.declared.refusal.Refusal.{Refusal}
 use Rattle.sheet.specs.Entries.{Entries, no-entries, job, job-of, link, link-of, with-job, with-link, moved}
 use Rattle.sheet.specs.Sound.{Sound, Entered, Linked, All-linked}
-use Rattle.sheet.specs.Entering.{enter-answer, link-answer, move-answer, has-link, taken}
+use Rattle.sheet.specs.Entering.{enter-answer, link-answer, move-answer}
 use Rattle.sheet.proofs.Linking.{linked-among-more}
 
 pub none-sound : Sound no-entries
@@ -84,8 +84,3 @@ move-sound e k r d s q =
       entered = λ i h. all-getD Entered (set (e .jobs) k j) i (job-of 0 0 0 0) h (all-set Entered (e .jobs) k j good (all-from-getD Entered (e .jobs) (job-of 0 0 0 0) (s .entered)));
       linked = subst (λ (m : ℕ). All-linked m (e .links)) (sym same) (s .linked);
     }
-
--- and so the sheet is sound after every call, accepted or refused
-pub taken-sound : {A : Type 0} (r : Result A Refusal) (old new : Entries) → Sound old → ((a : A) → r ≡ Ok a → Sound new) → Sound (taken r old new)
-taken-sound (Ok a) old new s f = f a refl
-taken-sound (Err x) old new s f = s
