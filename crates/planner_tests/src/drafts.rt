@@ -14,12 +14,21 @@ pub(crate) fn one_job<P: Drop>(
     Ok(draft)
 }
 
-/// A draft with two linked jobs at one station, as the slip of `EXAMPLE`.
+/// A draft with two linked jobs at one station.
 pub(crate) fn two_jobs<P: Drop>(pile: P) -> Result<Draft<P>, Refusal> {
     let mut draft = Draft::new(pile);
     draft.enter(0, 5, 0, 12)?;
     draft.enter(0, 4, 0, 9)?;
     draft.link(0, 1, 0)?;
+    Ok(draft)
+}
+
+/// A draft with three jobs that do not fit together, though any two of them do.
+pub(crate) fn three_jobs<P: Drop>(pile: P) -> Result<Draft<P>, Refusal> {
+    let mut draft = Draft::new(pile);
+    for _ in 0..3 {
+        draft.enter(3, 8, 1, 18)?;
+    }
     Ok(draft)
 }
 
@@ -40,6 +49,3 @@ pub(crate) fn all_links<P: Drop>(pile: P) -> Result<Draft<P>, Refusal> {
     }
     Ok(draft)
 }
-
-/// The slip of two linked jobs.
-pub(crate) const EXAMPLE: &str = "J 0 5 0 12\nJ 0 4 0 9\nL 0 1 0\nE 2 1 21\n";

@@ -1,12 +1,8 @@
-// Tests of the planner: what drafts refuse, what searches answer, and planning a slip from Rattle and from C.
-#[cfg(test)]
-mod c_call;
+// Tests of drafts and searches: what drafts refuse, and what searches answer.
 #[cfg(test)]
 mod drafts;
 #[cfg(test)]
 mod instalments;
-#[cfg(test)]
-mod plans;
 #[cfg(test)]
 mod refusals;
 #[cfg(test)]

@@ -1,5 +1,5 @@
 // The call for C: its answers, and the bytes of the buffer.
-use crate::drafts::EXAMPLE;
+use crate::example::EXAMPLE;
 use c_api::call::riuvelde_plan;
 use std::test::*;
 

@@ -1,5 +1,5 @@
 // Planning a slip: the report, or why there is none.
-use crate::drafts::EXAMPLE;
+use crate::example::EXAMPLE;
 use house::planning::plan;
 use house::planning::plan_within;
 use report::reported::Unplanned;
