@@ -1,4 +1,6 @@
 // The rules that a station takes one job at a time: Pairs, Edges and Not-first.
+#![tactic(auto)]
+
 pub mod edges;
 pub mod gathering;
 pub mod not_first;

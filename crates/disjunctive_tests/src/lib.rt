@@ -1,4 +1,6 @@
 // Tests of Pairs, Edges and Not-first on small sheets.
+#![tactic(auto)]
+
 #[cfg(test)]
 mod tests {
     use disjunctive::edges::Edges;

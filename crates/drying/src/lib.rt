@@ -1,4 +1,6 @@
 // Glue drying: an example of a rule by a joint author.
+#![tactic(auto)]
+
 ghost use Rattle.std.specs.Prelude.{◌≡◌, ◌+◌, ◌<◌, length};
 ghost use Rattle.sheet.specs.Sound.{AllLinked};
 ghost use Rattle.rule.specs.Windows.{window};

@@ -1,4 +1,6 @@
 // The worked figures, proved of the definitions that the planner's contracts cite.
+#![tactic(auto)]
+
 ghost use Rattle.std.specs.Prelude.{◌≡◌};
 ghost use Rattle.figures.specs.Figures.{Figures};
 

@@ -1,4 +1,6 @@
 // A rule that admits no timetable, and notices as late as the laws of a rule allow.
+#![tactic(auto)]
+
 ghost use Rattle.std.specs.Prelude.{◌≡◌};
 ghost use Rattle.std.proofs.Common.{sym, ◌∙◌};
 ghost use Rattle.forbid_all.specs.ForbidAll.{all_single, forbid_all_cut};

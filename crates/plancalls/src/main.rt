@@ -1,4 +1,6 @@
 // Calls on standard input, one a line, and an answer line for each, with the house pile.
+#![tactic(auto)]
+
 use calls::planner::Planner;
 use commands::buffer::LineBuffer;
 use commands::responding::respond;

@@ -1,4 +1,6 @@
 // The planner: a draft that is filled and closed, and the search of it that is advanced and reopened.
+#![tactic(auto)]
+
 pub mod advancing;
 pub mod closing;
 pub mod draft;

@@ -1,4 +1,6 @@
 // Tests of drafts and searches: what drafts refuse, and what searches answer.
+#![tactic(auto)]
+
 #[cfg(test)]
 mod drafts;
 #[cfg(test)]

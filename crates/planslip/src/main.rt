@@ -1,4 +1,6 @@
 // planslip: plans the slip on standard input with the house pile, and prints the outcome or the fault.
+#![tactic(auto)]
+
 ghost use Rattle.std.specs.Prelude.{◌≤◌, length, IfOk};
 
 use house::pile::HousePile;

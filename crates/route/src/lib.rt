@@ -1,4 +1,6 @@
 // Route: the links of a sheet as a narrowing rule.
+#![tactic(auto)]
+
 ghost use Rattle.std.specs.Prelude.{◌≡◌, true, length};
 ghost use Rattle.sheet.specs.Sound.{AllEntered, AllLinked};
 ghost use Rattle.rule.specs.Windows.{formed};

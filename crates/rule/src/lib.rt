@@ -1,4 +1,6 @@
 // What a narrowing rule is, and two ways of piling rules.
+#![tactic(auto)]
+
 pub mod both;
 pub mod narrowing;
 pub mod standstill;

@@ -1,4 +1,6 @@
 // Tests of the rules on small sheets, by the numbers that their calls answer.
+#![tactic(auto)]
+
 #[cfg(test)]
 mod tests {
     use drying::Drying;

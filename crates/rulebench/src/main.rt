@@ -1,4 +1,6 @@
 // rulebench RULE JOBS CALLS: calls a station rule so many times on so many jobs of one station, to be counted from outside.
+#![tactic(auto)]
+
 use anyhow::{Context, anyhow};
 use disjunctive::edges::Edges;
 use disjunctive::not_first::NotFirst;

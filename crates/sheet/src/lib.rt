@@ -1,4 +1,6 @@
 // The sheet: jobs and links in order of entry, their limits, and the refusals of every call.
+#![tactic(auto)]
+
 pub mod entering;
 pub mod limits;
 pub mod records;

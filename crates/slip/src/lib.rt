@@ -1,4 +1,6 @@
 // The slip reader: bytes to a sheet's jobs and links, or the first fault.
+#![tactic(auto)]
+
 pub mod fault;
 mod field;
 mod kind;

@@ -1,4 +1,6 @@
 // Tests of the slip reader: slips good and damaged, with what is told of them and what the sheet then holds.
+#![tactic(auto)]
+
 #[cfg(test)]
 mod checks;
 #[cfg(test)]

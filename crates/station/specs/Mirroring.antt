@@ -164,7 +164,7 @@ module _ (U : List Task) (fit : All Fit U) where
     edges_turned = sets_turned (ends_last (mirror i)) earliest_completion (starts_first i) (limit_before i) (λ S h. (
       test_same S h _ _ _ _ (λ r.
           let w : Turned (i ∷ S) = turned_set (i ∷ S) (own, h) refl in
-          ((λ k. omega (arith, w.est-is, w.lct-most, r.lct_is, r.work_is, r.est_most)), (λ k. omega (arith, w.est-is, w.lct-most, r.lct_is, r.work_is, r.est_most)))),
+          ((λ k. omega (arith, w.est_is, w.lct_most, r.lct_is, r.work_is, r.est_most)), (λ k. omega (arith, w.est_is, w.lct_most, r.lct_is, r.work_is, r.est_most)))),
       λ e. parts_turned S h (and_parts _ _ e).0,
     ))
 

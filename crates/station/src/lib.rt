@@ -1,4 +1,6 @@
 // One station that takes one task at a time: its tasks, and the kernels that narrow their windows.
+#![tactic(auto)]
+
 pub mod edges;
 pub mod kernel;
 pub mod limits;

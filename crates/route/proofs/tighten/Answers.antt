@@ -9,8 +9,8 @@ use Rattle.rule.proofs.Setting.{Bounded, bounded_copy, bounded_all, raised_by_li
 use Rattle.route.specs.Route.{start_after, past_before, earliest_start, past_latest_start}
 use Rattle.route.proofs.tighten.Goals as goal
 
-pub overflow-add-lo : goal.overflow-add-lo
-overflow-add-lo c =
+pub overflow_add-lo : goal.overflow_add-lo
+overflow_add-lo c =
     let f = formed_fact c.args.windows.now c.requires.formed in
     let l = link c.args.links.now c.loop-link.link-index in
     let linked = c.requires.linked c.loop-link.link-index c.loop-link-test.true in
@@ -18,7 +18,7 @@ overflow-add-lo c =
     omega (arith, f.ordered l.from from, f.timely l.from from, (c.requires.entered l.from linked.0).2, linked.3)
 
 pub loop-link-init : goal.loop-link-init
-loop-link-init c = bounded_copy _ _ c.copy-from-slice.ensures.after
+loop-link-init c = bounded_copy _ _ c.copy_from_slice.ensures.after
 
 pub loop-link-preserved : goal.loop-link-preserved
 loop-link-preserved c =
@@ -29,9 +29,9 @@ loop-link-preserved c =
     let here = c.loop-link-test.true in
     let f = formed_fact ws c.requires.formed in
     let linked = c.requires.linked i here in
-    lowered_by_link (λ l. l.from) (past_before js ws) (λ k. (window ws k).hi + 1) _ ws _ ls i here (omega (arith, linked.0, f.count)) c.min.result c.saturating-sub-hi.result
+    lowered_by_link (λ l. l.from) (past_before js ws) (λ k. (window ws k).hi + 1) _ ws _ ls i here (omega (arith, linked.0, f.count)) c.min.result c.saturating_sub-hi.result
     (raised_by_link (λ l. l.to) (start_after js ws) (λ k. (window ws k).lo) _ ws _ ls i here (omega (arith, linked.1, f.count)) c.max.result _ c.loop-link.invariant refl c.max.ensures)
-    (omega (arith, c.saturating-sub-hi.ensures)) c.min.ensures
+    (omega (arith, c.saturating_sub-hi.ensures)) c.min.ensures
 
 pub returns : goal.returns
 returns c =

@@ -8,7 +8,7 @@ use Rattle.c_api.proofs.Encoding.{pair_step}
 use Rattle.c_api.proofs.bytes.write_starts.Goals as goal
 
 pub loop-i-preserved : goal.loop-i-preserved
-loop-i-preserved c = c.put-pair.ensures ∙ pair_step c.args.starts.now c.args.buffer.now c.loop-i.buffer c.loop-i.i (omega arith) c.requires.room c.loop-i.invariant
+loop-i-preserved c = c.put_pair.ensures ∙ pair_step c.args.starts.now c.args.buffer.now c.loop-i.buffer c.loop-i.i (omega arith) c.requires.room c.loop-i.invariant
 
 pub returns : goal.returns
 returns c =

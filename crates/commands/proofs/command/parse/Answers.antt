@@ -3,4 +3,4 @@ use Rattle.commands.proofs.Law.{command_law}
 use Rattle.commands.proofs.command.parse.Goals as goal
 
 pub returns : goal.returns
-returns c = record { answer = c.read-call.ensures; law = command_law _ _ c.read-call.ensures }
+returns c = record { answer = c.read_call.ensures; law = command_law _ _ c.read_call.ensures }

@@ -9,19 +9,19 @@ use Rattle.disjunctive.proofs.gathering.gather.Goals.{then-job-station, else-job
 pub loop-k-init : goal.loop-k-init
 loop-k-init c = gathering_none _ _ _ _ c.requires.room
 
-pub overflow-add-tasks : goal.overflow-add-tasks
-overflow-add-tasks c =
+pub overflow_add-tasks : goal.overflow_add-tasks
+overflow_add-tasks c =
     let f = formed_fact c.args.windows.now c.requires.formed in
     omega (arith, f.timely c.loop-k.k c.loop-k-test.true, (c.requires.entered c.loop-k.k (omega (arith, f.count, c.loop-k-test.true))).2)
 
-pub offset-bounds-tasks-count : goal.offset-bounds-tasks-count
-offset-bounds-tasks-count c = omega (arith, c.requires.few, gathering_fits _ _ _ _ _ _ c.loop-k.invariant (omega (arith, (formed_fact c.args.windows.now c.requires.formed).count, c.requires.few, c.loop-k-test.true)), c.loop-k.invariant.room)
+pub offset_bounds-tasks-count : goal.offset_bounds-tasks-count
+offset_bounds-tasks-count c = omega (arith, c.requires.few, gathering_fits _ _ _ _ _ _ c.loop-k.invariant (omega (arith, (formed_fact c.args.windows.now c.requires.formed).count, c.requires.few, c.loop-k-test.true)), c.loop-k.invariant.room)
 
 pub bounds-tasks-count : goal.bounds-tasks-count
 bounds-tasks-count c = omega (arith, gathering_fits _ _ _ _ _ _ c.loop-k.invariant (omega (arith, (formed_fact c.args.windows.now c.requires.formed).count, c.requires.few, c.loop-k-test.true)))
 
-pub overflow-add-count : goal.overflow-add-count
-overflow-add-count c = omega (arith, gathering_fits _ _ _ _ _ _ c.loop-k.invariant (omega (arith, (formed_fact c.args.windows.now c.requires.formed).count, c.requires.few, c.loop-k-test.true)), c.loop-k.invariant.room)
+pub overflow_add-count : goal.overflow_add-count
+overflow_add-count c = omega (arith, gathering_fits _ _ _ _ _ _ c.loop-k.invariant (omega (arith, (formed_fact c.args.windows.now c.requires.formed).count, c.requires.few, c.loop-k-test.true)), c.loop-k.invariant.room)
 
 pub loop-k-preserved : goal.loop-k-preserved
 loop-k-preserved c =

@@ -8,8 +8,8 @@ use Rattle.rule.specs.Cuts.{verdict_of, left}
 use Rattle.disjunctive.specs.StationCuts.{station_cut}
 use Rattle.disjunctive.proofs.stations.propagate.Goals as goal
 
-pub narrow-jobs-requires : goal.narrow-jobs-requires
-narrow-jobs-requires g c =
+pub narrow_jobs-requires : goal.narrow_jobs-requires
+narrow_jobs-requires g c =
     let same = sym c.jobs.ensures in
     let sound = sheet-sound c.args.sheet.now in
     record {
@@ -23,6 +23,6 @@ returns g c =
     let K = g.K.Kernel in
     let ws = c.args.windows.now in
     record {
-      answer = c.narrow-jobs.ensures.answer ∙ ap (λ (js : List Job). verdict_of (station_cut K.overloaded K.earliest K.limit js ws)) c.jobs.ensures;
-      after = c.narrow-jobs.ensures.after ∙ ap (λ (js : List Job). left (station_cut K.overloaded K.earliest K.limit js ws) ws) c.jobs.ensures;
+      answer = c.narrow_jobs.ensures.answer ∙ ap (λ (js : List Job). verdict_of (station_cut K.overloaded K.earliest K.limit js ws)) c.jobs.ensures;
+      after = c.narrow_jobs.ensures.after ∙ ap (λ (js : List Job). left (station_cut K.overloaded K.earliest K.limit js ws) ws) c.jobs.ensures;
     }

@@ -13,12 +13,12 @@ loop-station-init g c = through_none _ _ _ _ _ _
 
 pub loop-station-preserved : goal.loop-station-preserved
 loop-station-preserved g c =
-    let r = c.raise-station.ensures in
-    through_more _ _ _ _ _ _ _ _ _ c.loop-station.invariant (sym r.load ∙ c.if-raise-station.false) (r.lows c.if-raise-station.false) r.other-lows (r.backs c.if-raise-station.false) r.other-backs
+    let r = c.raise_station.ensures in
+    through_more _ _ _ _ _ _ _ _ _ c.loop-station.invariant (sym r.load ∙ c.if-raise_station.false) (r.lows c.if-raise_station.false) r.other_lows (r.backs c.if-raise_station.false) r.other_backs
 
-pub returns-then-raise-station : goal.returns-then-raise-station
-returns-then-raise-station g c = record {
-  load = sym (below_stop (λ x. g.K.Kernel.overloaded (tasks_at c.args.jobs.now c.args.windows.now x)) stations c.loop-station.station c.loop-station-test.true (sym c.raise-station.ensures.load ∙ c.if-raise-station.true));
+pub returns-then-raise_station : goal.returns-then-raise_station
+returns-then-raise_station g c = record {
+  load = sym (below_stop (λ x. g.K.Kernel.overloaded (tasks_at c.args.jobs.now c.args.windows.now x)) stations c.loop-station.station c.loop-station-test.true (sym c.raise_station.ensures.load ∙ c.if-raise_station.true));
   lows = λ r. absurd (both_ways true r refl);
   backs = λ r. absurd (both_ways true r refl);
 }

@@ -14,8 +14,8 @@ use Rattle.disjunctive.specs.Gathered.{tasks_formed, tasks_numbered, tasks_other
 use Rattle.disjunctive.proofs.Running.{from_start, raised_as}
 use Rattle.disjunctive.proofs.stations.raise_station.Goals as goal
 
-pub raise-by-job-requires : goal.raise-by-job-requires
-raise-by-job-requires g c =
+pub raise_by_job-requires : goal.raise_by_job-requires
+raise_by_job-requires g c =
     let js = c.args.jobs.now in
     let ws = c.args.windows.now in
     let f = formed_fact ws c.requires.formed in
@@ -26,30 +26,30 @@ raise-by-job-requires g c =
       numbered = subst (λ (L : List Task). All (λ t. t.job < length c.args.lows.now) L) (sym e) (tasks_numbered js ws c.requires.entered c.requires.few f c.args.station _ c.requires.lows);
     }
 
-pub returns-then-raise-by-job : goal.returns-then-raise-by-job
-returns-then-raise-by-job g c =
+pub returns-then-raise_by_job : goal.returns-then-raise_by_job
+returns-then-raise_by_job g c =
     let js = c.args.jobs.now in
     let ws = c.args.windows.now in
     let f = formed_fact ws c.requires.formed in
     let e = from_start c.gather-count.result c.gather-count.new.tasks _ c.gather-count.ensures.tasks in
     record {
-      load = c.if-raise-by-job.ensures.load ∙ ap g.K.Kernel.overloaded e;
+      load = c.if-raise_by_job.ensures.load ∙ ap g.K.Kernel.overloaded e;
       lows = λ r. absurd (both_ways true r refl);
-      other-lows = λ k n. c.if-raise-by-job.ensures.kept k (subst (All (λ t. t.job ≡ k → ⊥)) (sym e) (tasks_others js ws c.requires.entered c.requires.few f c.args.station k n));
+      other-lows = λ k n. c.if-raise_by_job.ensures.kept k (subst (All (λ t. t.job ≡ k → ⊥)) (sym e) (tasks_others js ws c.requires.entered c.requires.few f c.args.station k n));
       backs = λ r. absurd (both_ways true r refl);
       other-backs = λ k n. refl;
     }
 
-pub reverse-time-requires : goal.reverse-time-requires
-reverse-time-requires g c =
+pub reverse_time-requires : goal.reverse_time-requires
+reverse_time-requires g c =
     subst (All Fit) (sym (from_start c.gather-count.result c.gather-count.new.tasks _ c.gather-count.ensures.tasks)) (tasks_formed c.args.jobs.now c.args.windows.now c.requires.entered c.requires.few (formed_fact c.args.windows.now c.requires.formed) c.args.station).fit
 
-pub raise-by-job-requires-2 : goal.raise-by-job-requires-2
-raise-by-job-requires-2 g c =
+pub raise_by_job-requires-2 : goal.raise_by_job-requires-2
+raise_by_job-requires-2 g c =
     let js = c.args.jobs.now in
     let ws = c.args.windows.now in
     let f = formed_fact ws c.requires.formed in
-    let e = c.reverse-time.ensures ∙ ap (map mirror) (from_start c.gather-count.result c.gather-count.new.tasks _ c.gather-count.ensures.tasks) in
+    let e = c.reverse_time.ensures ∙ ap (map mirror) (from_start c.gather-count.result c.gather-count.new.tasks _ c.gather-count.ensures.tasks) in
     record {
       formed = subst Formed (sym e) (formed-mirror _ (tasks_formed js ws c.requires.entered c.requires.few f c.args.station));
       few = omega (arith, c.requires.backs, f.count, c.requires.few);
@@ -65,13 +65,13 @@ returns g c =
     let f = formed_fact ws c.requires.formed in
     let fit = (tasks_formed js ws c.requires.entered c.requires.few f x).fit in
     let e : take (c.gather-count.result - 0) c.gather-count.new.tasks ≡ U = from_start c.gather-count.result c.gather-count.new.tasks _ c.gather-count.ensures.tasks in
-    let m : c.reverse-time.new.tasks ≡ map mirror U = c.reverse-time.ensures ∙ ap (map mirror) e in
-    let forth = c.if-raise-by-job.ensures in
-    let back = c.raise-by-job-2.ensures in
+    let m : c.reverse_time.new.tasks ≡ map mirror U = c.reverse_time.ensures ∙ ap (map mirror) e in
+    let forth = c.if-raise_by_job.ensures in
+    let back = c.raise_by_job-2.ensures in
     record {
       load = back.load ∙ ap g.K.Kernel.overloaded m ∙ g.met.K.Kernel.lawful.mirrored_load U fit;
-      lows = λ r k h at. all_in (λ t. get_or c.raise-by-job.new.out t.job 0 ≡ g.K.Kernel.earliest t U) (task_in js ws c.requires.entered c.requires.few f x k h at) (raised_as g.K.Kernel.earliest _ U e _ (forth.raised refl));
+      lows = λ r k h at. all_in (λ t. get_or c.raise_by_job.new.out t.job 0 ≡ g.K.Kernel.earliest t U) (task_in js ws c.requires.entered c.requires.few f x k h at) (raised_as g.K.Kernel.earliest _ U e _ (forth.raised refl));
       other-lows = λ k n. forth.kept k (subst (All (λ t. t.job ≡ k → ⊥)) (sym e) (tasks_others js ws c.requires.entered c.requires.few f x k n));
-      backs = λ r k h at. all_in (λ t. get_or c.raise-by-job-2.new.out t.job 0 ≡ g.K.Kernel.earliest t (map mirror U)) (in_map mirror (task_in js ws c.requires.entered c.requires.few f x k h at)) (raised_as g.K.Kernel.earliest _ (map mirror U) m _ (back.raised r));
+      backs = λ r k h at. all_in (λ t. get_or c.raise_by_job-2.new.out t.job 0 ≡ g.K.Kernel.earliest t (map mirror U)) (in_map mirror (task_in js ws c.requires.entered c.requires.few f x k h at)) (raised_as g.K.Kernel.earliest _ (map mirror U) m _ (back.raised r));
       other-backs = λ k n. back.kept k (subst (All (λ t. t.job ≡ k → ⊥)) (sym m) (All-map (λ t. t.job ≡ k → ⊥) mirror U (tasks_others js ws c.requires.entered c.requires.few f x k n)));
     }

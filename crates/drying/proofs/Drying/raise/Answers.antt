@@ -8,7 +8,7 @@ use Rattle.drying.specs.Drying.{dry_at, earliest_start}
 use Rattle.drying.proofs.Drying.raise.Goals as goal
 
 pub loop-link-init : goal.loop-link-init
-loop-link-init c = bounded_copy _ _ c.copy-from-slice.ensures.after
+loop-link-init c = bounded_copy _ _ c.copy_from_slice.ensures.after
 
 pub loop-link-preserved : goal.loop-link-preserved
 loop-link-preserved c =
@@ -16,7 +16,7 @@ loop-link-preserved c =
     let i = c.loop-link.link-index in
     let linked = c.requires.linked i c.loop-link-test.true in
     raised_by_link (λ l. l.to) (dry_at c.args.self.now c.args.jobs.now ws) (λ k. (window ws k).lo) _ ws _ c.args.links.now i c.loop-link-test.true (omega (arith, linked.1))
-    c.max.result c.dry-at-dry.result c.loop-link.invariant c.dry-at-dry.ensures c.max.ensures
+    c.max.result c.dry_at-dry.result c.loop-link.invariant c.dry_at-dry.ensures c.max.ensures
 
 pub returns : goal.returns
 returns c =

@@ -5,6 +5,6 @@ use Rattle.house.proofs.planning.plan_within.Goals as goal
 
 pub returns : goal.returns
 returns c = record {
-  told = c.plan-with.ensures.told;
-  hall = halls_words c.args.bytes.now c.args.looks c.args.room (told c.plan-with.result) c.plan-with.ensures.owes;
+  told = c.plan_with.ensures.told;
+  hall = halls_words c.args.bytes.now c.args.looks c.args.room (told c.plan_with.result) c.plan_with.ensures.owes;
 }

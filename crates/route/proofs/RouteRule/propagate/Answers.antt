@@ -9,13 +9,13 @@ use Rattle.route.specs.Route.{route_cut}
 use Rattle.route.specs.Links.{narrowed, route_passed, route_failed}
 use Rattle.route.proofs.RouteRule.propagate.Goals as goal
 
-pub returns-then-not-well-formed : goal.returns-then-not-well-formed
-returns-then-not-well-formed c =
+pub returns-then-not-well_formed : goal.returns-then-not-well_formed
+returns-then-not-well_formed c =
     let s = c.args.sheet.now in
     let ws = c.args.windows.now in
     let gone : route_cut (entries s) ws ≡ dead =
     route_failed (entries s) (sheet-sound s) ws (formed_fact ws c.requires) _
-    (as_entered (narrowed ws) (entries s) _ _ _ c.jobs.ensures c.links.ensures c.tighten.ensures) (sym c.if-not-well-formed.ensures) in
+    (as_entered (narrowed ws) (entries s) _ _ _ c.jobs.ensures c.links.ensures c.tighten.ensures) (sym c.if-not-well_formed.ensures) in
     record { answer = ap verdict_of (sym gone); after = ap (λ (x : Cut). left x ws) (sym gone) }
 
 pub returns : goal.returns
@@ -24,5 +24,5 @@ returns c =
     let ws = c.args.windows.now in
     let alive : route_cut (entries s) ws ≡ live c.tighten.new.narrowed =
     route_passed (entries s) (sheet-sound s) ws (formed_fact ws c.requires) _
-    (as_entered (narrowed ws) (entries s) _ _ _ c.jobs.ensures c.links.ensures c.tighten.ensures) (sym c.if-not-well-formed.ensures) in
-    record { answer = ap verdict_of (sym alive); after = c.copy-from-slice.ensures.after ∙ ap (λ (x : Cut). left x ws) (sym alive) }
+    (as_entered (narrowed ws) (entries s) _ _ _ c.jobs.ensures c.links.ensures c.tighten.ensures) (sym c.if-not-well_formed.ensures) in
+    record { answer = ap verdict_of (sym alive); after = c.copy_from_slice.ensures.after ∙ ap (λ (x : Cut). left x ws) (sym alive) }

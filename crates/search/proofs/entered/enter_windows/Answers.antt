@@ -12,7 +12,7 @@ use Rattle.search.proofs.entered.enter_windows.Goals as goal
 pub loop-i-preserved : goal.loop-i-preserved
 loop-i-preserved c =
     let n : length c.jobs-jobs.result.now ≡ length (entries c.args.sheet.now).jobs = ap length c.jobs-jobs.ensures in
-    ap (λ (w : Window). take (c.loop-i.i + 1) (set c.loop-i.windows c.loop-i.i w)) c.entered-window.ensures
+    ap (λ (w : Window). take (c.loop-i.i + 1) (set c.loop-i.windows c.loop-i.i w)) c.entered_window.ensures
     ∙ filled_more entered_window (job_of 0 0 0 0) c.jobs-jobs.result.now c.loop-i.windows c.loop-i.i (omega (arith, c.requires)) (omega arith) c.loop-i.invariant
 
 pub returns : goal.returns

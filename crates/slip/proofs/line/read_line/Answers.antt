@@ -5,4 +5,4 @@ use Rattle.slip.proofs.Steps.{line_by_kind}
 use Rattle.slip.proofs.line.read_line.Goals as goal
 
 pub returns : goal.returns
-returns c = c.read-kind.ensures ∙ line_by_kind c.args.at (entries c.args.sheet.now) c.args.line.now _ _ (omega (arith, c.if-line-eq0.false)) c.is-some.ensures c.line-kind-kind.ensures
+returns c = c.read_kind.ensures ∙ line_by_kind c.args.at (entries c.args.sheet.now) c.args.line.now _ _ (omega (arith, c.if-line-eq0.false)) c.is_some.ensures c.line_kind-kind.ensures

@@ -5,6 +5,6 @@ use Rattle.slip.proofs.reader.read_slip.Goals as goal
 
 pub returns : goal.returns
 returns c =
-    let a = c.read-bytes.ensures.answer in
-    let s = c.read-bytes.ensures.sheet in
-    record { answer = a; sheet = s; law = reader_law c.args.bytes.now c.read-bytes.result (entries c.read-bytes.new.sheet) a s }
+    let a = c.read_bytes.ensures.answer in
+    let s = c.read_bytes.ensures.sheet in
+    record { answer = a; sheet = s; law = reader_law c.args.bytes.now c.read_bytes.result (entries c.read_bytes.new.sheet) a s }

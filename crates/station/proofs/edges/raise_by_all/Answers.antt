@@ -8,17 +8,17 @@ use Rattle.station.specs.Members.{in_at}
 use Rattle.station.specs.Bounds.{any_in, any_none}
 use Rattle.station.proofs.edges.raise_by_all.Goals as goal
 
-pub returns-then-raise-by-both : goal.returns-then-raise-by-both
-returns-then-raise-by-both c = record {
-  load = sym (any_in (passes_end c.args.tasks.now) (in_at c.args.tasks.now c.loop-e.e c.loop-e-test.true) (sym c.raise-by-both.ensures.load ∙ c.if-raise-by-both.true));
+pub returns-then-raise_by_both : goal.returns-then-raise_by_both
+returns-then-raise_by_both c = record {
+  load = sym (any_in (passes_end c.args.tasks.now) (in_at c.args.tasks.now c.loop-e.e c.loop-e-test.true) (sym c.raise_by_both.ensures.load ∙ c.if-raise_by_both.true));
   lows = λ e. absurd (both_ways true e refl);
 }
 
 pub loop-e-preserved : goal.loop-e-preserved
 loop-e-preserved c =
     let U = c.args.tasks.now in (
-      λ q h. rw add-one (c.raise-by-both.ensures.lows c.if-raise-by-both.false q h ∙ ap (λ (x : ℕ). raised_by_both (at U c.loop-e.e).end U q x) (c.loop-e.invariant.0 q h)),
-      below_more _ c.loop-e.e c.loop-e.invariant.1 (sym c.raise-by-both.ensures.load ∙ c.if-raise-by-both.false),
+      λ q h. rw add-one (c.raise_by_both.ensures.lows c.if-raise_by_both.false q h ∙ ap (λ (x : ℕ). raised_by_both (at U c.loop-e.e).end U q x) (c.loop-e.invariant.0 q h)),
+      below_more _ c.loop-e.e c.loop-e.invariant.1 (sym c.raise_by_both.ensures.load ∙ c.if-raise_by_both.false),
     )
 
 pub returns : goal.returns

@@ -10,16 +10,16 @@ use Rattle.station.proofs.edges.raise_by_earlier.Goals.{then-t-bound, else-t-bou
 pub loop-k-init : goal.loop-k-init
 loop-k-init c = earlier_none _ _ _ _ c.requires.work
 
-pub overflow-add-t : goal.overflow-add-t
-overflow-add-t c =
+pub overflow_add-t : goal.overflow_add-t
+overflow_add-t c =
     let t = fit_at c.args.tasks.now c.requires.formed c.loop-k.k c.loop-k-test.true in
     omega (arith, c.loop-k.invariant.rest, t.room, t.ends, work_most (ends_by c.args.bound) c.args.tasks.now c.loop-k.k c.requires.formed)
 
-pub overflow-sub-rest : goal.overflow-sub-rest
-overflow-sub-rest c = omega (arith, c.loop-k.invariant.rest, work-held c.args.bound c.args.tasks.now c.loop-k.k c.loop-k-test.true c.if-t-bound.true)
+pub overflow_sub-rest : goal.overflow_sub-rest
+overflow_sub-rest c = omega (arith, c.loop-k.invariant.rest, work-held c.args.bound c.args.tasks.now c.loop-k.k c.loop-k-test.true c.if-t-bound.true)
 
-pub overflow-add-peak : goal.overflow-add-peak
-overflow-add-peak c =
+pub overflow_add-peak : goal.overflow_add-peak
+overflow_add-peak c =
     let t = fit_at c.args.tasks.now c.requires.formed c.loop-k.k c.loop-k-test.true in
     omega (arith, c.loop-k.invariant.peak, t.short, before_most c.args.bound c.args.tasks.now c.loop-k.k c.requires.formed (omega (arith, c.loop-k-test.true)))
 

@@ -10,25 +10,25 @@ use Rattle.station.proofs.edges.raise_by_later.Goals as goal
 pub loop-k-init : goal.loop-k-init
 loop-k-init c = pass_none _ _ _ _ _ 0 0 refl refl
 
-pub overflow-add-work : goal.overflow-add-work
-overflow-add-work c =
+pub overflow_add-work : goal.overflow_add-work
+overflow_add-work c =
     let d = c.loop-k.invariant in
     let t = fit_at c.args.tasks.now c.requires.formed (c.loop-k.k - 1) (omega (arith, d.within)) in
     omega (arith, d.work_is, t.short, work_most (ends_by c.args.bound) c.args.tasks.now c.loop-k.k c.requires.formed)
 
-pub overflow-add-t : goal.overflow-add-t
-overflow-add-t c =
+pub overflow_add-t : goal.overflow_add-t
+overflow_add-t c =
     let d = c.loop-k.invariant in
     let t = fit_at c.args.tasks.now c.requires.formed (c.loop-k.k - 1) (omega (arith, d.within)) in
     omega (arith, d.work_is, t.short, t.room, t.ends, work_most (ends_by c.args.bound) c.args.tasks.now c.loop-k.k c.requires.formed)
 
-pub overflow-add-t-else-t-bound : goal.overflow-add-t-else-t-bound
-overflow-add-t-else-t-bound c =
+pub overflow_add-t-else-t-bound : goal.overflow_add-t-else-t-bound
+overflow_add-t-else-t-bound c =
     let t = fit_at c.args.tasks.now c.requires.formed (c.loop-k.k - 1) (omega (arith, c.loop-k.invariant.within)) in
     omega (arith, t.room, t.ends)
 
-pub overflow-add-t-else-t-bound-2 : goal.overflow-add-t-else-t-bound-2
-overflow-add-t-else-t-bound-2 c =
+pub overflow_add-t-else-t-bound-2 : goal.overflow_add-t-else-t-bound-2
+overflow_add-t-else-t-bound-2 c =
     let d = c.loop-k.invariant in
     let t = fit_at c.args.tasks.now c.requires.formed (c.loop-k.k - 1) (omega (arith, d.within)) in
     omega (arith, d.work_is, t.room, t.ends, work_most (ends_by c.args.bound) c.args.tasks.now c.loop-k.k c.requires.formed)

@@ -8,8 +8,8 @@ use Rattle.station.proofs.kernel.scatter.Goals as goal
 pub loop-q-init : goal.loop-q-init
 loop-q-init c = scattered_none _ _ _
 
-pub offset-bounds-out-tasks : goal.offset-bounds-out-tasks
-offset-bounds-out-tasks c = omega (arith, All-get_or (λ t. t.job < length c.args.out.now) c.args.tasks.now c.loop-q.q no_task c.loop-q-test.true c.requires.numbered, c.requires.few)
+pub offset_bounds-out-tasks : goal.offset_bounds-out-tasks
+offset_bounds-out-tasks c = omega (arith, All-get_or (λ t. t.job < length c.args.out.now) c.args.tasks.now c.loop-q.q no_task c.loop-q-test.true c.requires.numbered, c.requires.few)
 
 pub bounds-out-tasks : goal.bounds-out-tasks
 bounds-out-tasks c = omega (arith, All-get_or (λ t. t.job < length c.args.out.now) c.args.tasks.now c.loop-q.q no_task c.loop-q-test.true c.requires.numbered, c.loop-q.auto.out)

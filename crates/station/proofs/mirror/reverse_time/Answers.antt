@@ -10,13 +10,13 @@ use Rattle.station.proofs.mirror.reverse_time.Goals as goal
 pub loop-k-init : goal.loop-k-init
 loop-k-init c = up_none no_task _ _
 
-pub overflow-sub-tasks : goal.overflow-sub-tasks
-overflow-sub-tasks c =
+pub overflow_sub-tasks : goal.overflow_sub-tasks
+overflow_sub-tasks c =
     let k = c.loop-k.k in
     omega (arith, ap (λ (t : Task). t.end) (c.loop-k.invariant.left k (omega arith)), (All-get_or Fit c.args.tasks.now k no_task (omega (arith, c.loop-k.auto.tasks)) c.requires).ends)
 
-pub overflow-sub-tasks-in-loop-k : goal.overflow-sub-tasks-in-loop-k
-overflow-sub-tasks-in-loop-k c =
+pub overflow_sub-tasks-in-loop-k : goal.overflow_sub-tasks-in-loop-k
+overflow_sub-tasks-in-loop-k c =
     let k = c.loop-k.k in
     let f = All-get_or Fit c.args.tasks.now k no_task (omega (arith, c.loop-k.auto.tasks)) c.requires in
     omega (arith, ap (λ (t : Task). t.lo) (c.loop-k.invariant.left k (omega arith)), f.room, f.ends)

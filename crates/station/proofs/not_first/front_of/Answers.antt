@@ -2,5 +2,5 @@
 use Rattle.std.proofs.Common.{arith}
 use Rattle.station.proofs.not_first.front_of.Goals as goal
 
-pub overflow-add-complete : goal.overflow-add-complete
-overflow-add-complete c = omega (arith, c.requires.room, c.requires.ends)
+pub overflow_add-complete : goal.overflow_add-complete
+overflow_add-complete c = omega (arith, c.requires.room, c.requires.ends)

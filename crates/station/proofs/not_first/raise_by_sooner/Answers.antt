@@ -16,22 +16,22 @@ loop-k-init c = pass_none _ _ _ _ _ 0 no_slack refl refl
 pub loop-k-preserved : goal.loop-k-preserved
 loop-k-preserved c = sooner_pass _ _ _ _ _ _ _ (c.loop-k.k - 1) c.loop-k.invariant (omega arith) c.if-complete-ready.false
 
-pub overflow-add-complete : goal.overflow-add-complete
-overflow-add-complete c = let t = fit_at c.args.tasks.now c.requires.formed (c.loop-k.k - 1) (omega (arith, c.loop-k.invariant.within)) in omega (arith, t.room, t.ends)
+pub overflow_add-complete : goal.overflow_add-complete
+overflow_add-complete c = let t = fit_at c.args.tasks.now c.requires.formed (c.loop-k.k - 1) (omega (arith, c.loop-k.invariant.within)) in omega (arith, t.room, t.ends)
 
-pub overflow-add-complete-then-complete-ready : goal.overflow-add-complete-then-complete-ready
-overflow-add-complete-then-complete-ready c = let t = fit_at c.args.tasks.now c.requires.formed (c.loop-k.k - 1) (omega (arith, c.loop-k.invariant.within)) in omega (arith, t.room, t.ends)
+pub overflow_add-complete-then-complete-ready : goal.overflow_add-complete-then-complete-ready
+overflow_add-complete-then-complete-ready c = let t = fit_at c.args.tasks.now c.requires.formed (c.loop-k.k - 1) (omega (arith, c.loop-k.invariant.within)) in omega (arith, t.room, t.ends)
 
-pub overflow-add-work : goal.overflow-add-work
-overflow-add-work c =
+pub overflow_add-work : goal.overflow_add-work
+overflow_add-work c =
     let t = fit_at c.args.tasks.now c.requires.formed (c.loop-k.k - 1) (omega (arith, c.loop-k.invariant.within)) in
     omega (arith, c.loop-k.invariant.work_is, t.short, work_most (complete_from c.args.ready) c.args.tasks.now c.loop-k.k c.requires.formed)
 
-pub overflow-add-t : goal.overflow-add-t
-overflow-add-t c = omega (arith, (fit_at c.args.tasks.now c.requires.formed (c.loop-k.k - 1) (omega (arith, c.loop-k.invariant.within))).ends)
+pub overflow_add-t : goal.overflow_add-t
+overflow_add-t c = omega (arith, (fit_at c.args.tasks.now c.requires.formed (c.loop-k.k - 1) (omega (arith, c.loop-k.invariant.within))).ends)
 
-pub overflow-sub-t : goal.overflow-sub-t
-overflow-sub-t c =
+pub overflow_sub-t : goal.overflow_sub-t
+overflow_sub-t c =
     let t = fit_at c.args.tasks.now c.requires.formed (c.loop-k.k - 1) (omega (arith, c.loop-k.invariant.within)) in
     omega (arith, c.loop-k.invariant.work_is, t.room, work_most (complete_from c.args.ready) c.args.tasks.now c.loop-k.k c.requires.formed)
 

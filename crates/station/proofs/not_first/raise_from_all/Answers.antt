@@ -5,14 +5,14 @@ use Rattle.station.specs.NotFirstPasses.{raised_by_sooner, raised_by_any, raised
 use Rattle.station.specs.Members.{fit_at}
 use Rattle.station.proofs.not_first.raise_from_all.Goals as goal
 
-pub overflow-add-ready : goal.overflow-add-ready
-overflow-add-ready c = let t = fit_at c.args.tasks.now c.requires.formed c.loop-j.j c.loop-j-test.true in omega (arith, t.room, t.ends)
+pub overflow_add-ready : goal.overflow_add-ready
+overflow_add-ready c = let t = fit_at c.args.tasks.now c.requires.formed c.loop-j.j c.loop-j-test.true in omega (arith, t.room, t.ends)
 
 pub loop-j-preserved : goal.loop-j-preserved
 loop-j-preserved c q h =
     let U = c.args.tasks.now in
     let e = ect (at U c.loop-j.j) in
-    rw add-one (c.raise-by-any.ensures q h ∙ ap (raised_by_any e U q) (c.raise-by-sooner-slack.ensures.lows q h) ∙ ap (λ (x : ℕ). raised_by_any e U q (raised_by_sooner e U q x)) (c.loop-j.invariant q h))
+    rw add-one (c.raise_by_any.ensures q h ∙ ap (raised_by_any e U q) (c.raise_by_sooner-slack.ensures.lows q h) ∙ ap (λ (x : ℕ). raised_by_any e U q (raised_by_sooner e U q x)) (c.loop-j.invariant q h))
 
 pub returns : goal.returns
 returns c q h =

@@ -3,4 +3,4 @@ use Rattle.text.proofs.Spacing.{last-number-is}
 use Rattle.text.proofs.spaced.last_number.Goals as goal
 
 pub returns : goal.returns
-returns c = rw c.parse-number.ensures (last-number-is c.args.digits c.args.text.now)
+returns c = rw c.parse_number.ensures (last-number-is c.args.digits c.args.text.now)

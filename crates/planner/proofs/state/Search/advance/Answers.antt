@@ -22,12 +22,12 @@ returns-then-looks-eq0 g c = record {
 pub returns : goal.returns
 returns g c =
     let s = c.args.self.now in
-    let e = c.make-looks-outcome.ensures in
+    let e = c.make_looks-outcome.ensures in
     let sound = sheet-sound s.sheet in
     record {
       answer = search rules;
       state = e.state;
-      path = path_read c.make-looks-outcome.new.self;
+      path = path_read c.make_looks-outcome.new.self;
       sheet = e.sheet;
       pile = e.pile;
       refused = tt;

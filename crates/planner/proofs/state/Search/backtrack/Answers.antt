@@ -5,8 +5,8 @@ use Rattle.planner.proofs.Narrowed.{back_grown}
 use Rattle.planner.proofs.Reading.{shut, shut_path, open_not-impossible}
 use Rattle.planner.proofs.state.Search.backtrack.Goals as goal
 
-pub invariant-of-self : goal.invariant-of-self
-invariant-of-self g c =
+pub invariant_of-self : goal.invariant_of-self
+invariant_of-self g c =
     let s = c.args.self.now in (
       s.start_places,
       (
@@ -15,8 +15,8 @@ invariant-of-self g c =
       ),
     )
 
-pub invariant-of-self-else-not-backtrack : goal.invariant-of-self-else-not-backtrack
-invariant-of-self-else-not-backtrack g c =
+pub invariant_of-self-else-not-backtrack : goal.invariant_of-self-else-not-backtrack
+invariant_of-self-else-not-backtrack g c =
     let s = c.args.self.now in
     (s.start_places, (back_grown s _ c.backtrack.ensures.after, ((λ e. absurd (open_not-impossible c.requires e)), tt)))
 

@@ -20,13 +20,13 @@ push-requires g c =
     let s = c.args.self.now in
     record { room = room-left s (lawful g s) c.args.windows.now c.requires.narrowed c.in-Some.job c.in-Some.ensures.chooses }
 
-pub invariant-of-self : goal.invariant-of-self
-invariant-of-self g c =
+pub invariant_of-self : goal.invariant_of-self
+invariant_of-self g c =
     let s = c.args.self.now in
     (s.start_places, (pushed_grown s (lawful g s) c.args.windows.now c.requires.narrowed c.in-Some.job _ _ c.in-Some.ensures.chooses c.on.ensures c.push.ensures, ((λ e. absurd (open_not-impossible c.requires.open e)), tt)))
 
-pub note-starts-requires : goal.note-starts-requires
-note-starts-requires g c =
+pub note_starts-requires : goal.note_starts-requires
+note_starts-requires g c =
     let s = c.args.self.now in
     let n = (narrowed-formed s (lawful g s) c.args.windows.now c.requires.narrowed).count in
     omega (arith, n, (sheet-sound s.sheet).few_jobs, s.start_places)
@@ -36,7 +36,7 @@ returns-in-None g c =
     let s = c.args.self.now in
     let n = (narrowed-formed s (lawful g s) c.args.windows.now c.requires.narrowed).count in
     record {
-      state = branched-none _ c.args.windows.now (path_in s) _ _ c.in-None.ensures.choice n c.note-starts.ensures;
+      state = branched-none _ c.args.windows.now (path_in s) _ _ c.in-None.ensures.choice n c.note_starts.ensures;
       sheet = refl;
       pile = refl;
     }

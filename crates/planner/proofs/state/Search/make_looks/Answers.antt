@@ -25,16 +25,16 @@ loop-self-preserved g c =
       omega (arith, q, m, c.loop-self.invariant.4),
     )
 
-pub returns-in-default : goal.returns-in-default
-returns-in-default g c =
+pub returns-in_default : goal.returns-in_default
+returns-in_default g c =
     let s = c.loop-self.self in
     let t = take (length (entries_of s).jobs) s.starts in
     let F : List Decision → State = look_in g.P.Rule.cut c.args.self.now in
     let k = c.args.looks - c.loop-self.made in
     record {
       outcome = outcome-read s.outcome (path_in s) t;
-      made = omega (arith, settled_made F s.outcome (path_in s) t k c.in-default.not-Open, c.loop-self.invariant.4);
-      state = sym (settled_after F s.outcome (path_in s) t k c.in-default.not-Open) ∙ c.loop-self.invariant.3;
+      made = omega (arith, settled_made F s.outcome (path_in s) t k c.in_default.not-Open, c.loop-self.invariant.4);
+      state = sym (settled_after F s.outcome (path_in s) t k c.in_default.not-Open) ∙ c.loop-self.invariant.3;
       sheet = c.loop-self.invariant.0;
       pile = c.loop-self.invariant.1;
     }

@@ -5,5 +5,5 @@ use Rattle.planner.proofs.state.Search.set_windows.Goals as goal
 pub returns : goal.returns
 returns g c =
     let s = c.args.self.now in
-    let e = windows_set s _ _ c.enter-windows.ensures.entered c.cut-down.ensures in
+    let e = windows_set s _ _ c.enter_windows.ensures.entered c.cut_down.ensures in
     record { windows = e; formed = set-formed s _ e }

@@ -13,4 +13,4 @@ propagate-requires-2 g c =
     let r = c.args.self.now.0 in
     let ws = c.args.windows.now in
     ap (λ (vs : List Window). formed (length e.jobs) vs) c.propagate.ensures.after
-    ∙ left-formed (g.met.A.Rule.lawful r e (sheet-sound c.args.sheet.now)) ws c.requires (sym c.in-default.ensures.answer)
+    ∙ left-formed (g.met.A.Rule.lawful r e (sheet-sound c.args.sheet.now)) ws c.requires (sym c.in_default.ensures.answer)

@@ -9,10 +9,10 @@ returns-in-First c =
     let p = c.loop-self.self in
     let l : p.depth ≤ length p.places = omega (arith, c.loop-self.invariant.1, c.loop-self.invariant.2) in
     let t = back-turned p.places p.depth _ c.loop-self-test.true l c.in-First.is c.loop-self.invariant.0 in
-    record { answer = t.answer; after = ap (λ (d : Decision). newest (set p.places (p.depth - 1) d) p.depth) c.to-second.ensures ∙ t.after }
+    record { answer = t.answer; after = ap (λ (d : Decision). newest (set p.places (p.depth - 1) d) p.depth) c.to_second.ensures ∙ t.after }
 
 pub loop-self-preserved : goal.loop-self-preserved
 loop-self-preserved c =
     let p = c.loop-self.self in
     let l : p.depth ≤ length p.places = omega (arith, c.loop-self.invariant.1, c.loop-self.invariant.2) in
-    (back_dropped p.places p.depth _ c.loop-self-test.true l c.in-default.not-First c.loop-self.invariant.0, omega (arith, c.loop-self.invariant.1), c.loop-self.invariant.2)
+    (back_dropped p.places p.depth _ c.loop-self-test.true l c.in_default.not-First c.loop-self.invariant.0, omega (arith, c.loop-self.invariant.1), c.loop-self.invariant.2)

@@ -7,8 +7,8 @@ use Rattle.search.proofs.path.Path.cut_down.Goals as goal
 pub chosen-requires : goal.chosen-requires
 chosen-requires c = let p = c.args.self.now in middle_below _ (place p.places c.loop-i.i) (grown_place c.args.windows.now p.places p.depth c.loop-i.i c.loop-i-test.true (omega arith) c.requires)
 
-pub offset-bounds-windows-decision : goal.offset-bounds-windows-decision
-offset-bounds-windows-decision c =
+pub offset_bounds-windows-decision : goal.offset_bounds-windows-decision
+offset_bounds-windows-decision c =
     let p = c.args.self.now in
     let h = job-there c.args.windows.now c.loop-i.windows p.places p.depth c.loop-i.i c.loop-i-test.true (omega arith) c.requires c.loop-i.invariant in
     search rules

@@ -6,8 +6,8 @@ use Rattle.search.proofs.path.Path.push.Goals as goal
 pub bounds-self-depth : goal.bounds-self-depth
 bounds-self-depth c = let p = c.args.self.now in omega (arith, newest-length p.places p.depth (omega arith), c.requires.room)
 
-pub invariant-of-self : goal.invariant-of-self
-invariant-of-self c =
+pub invariant_of-self : goal.invariant_of-self
+invariant_of-self c =
     let p = c.args.self.now in
     (omega (arith, newest-length p.places p.depth (omega arith), c.requires.room), (search (rules, length-set), tt))
 

@@ -10,24 +10,17 @@ use Rattle.sheet.proofs.Linking.{linked-among_more}
 use Rattle.sheet.proofs.Soundness.{job-count}
 use Rattle.sheet.proofs.table.Sheet.push_job.Goals as goal
 
-pub invariant-of-self : goal.invariant-of-self
-invariant-of-self c =
-    let s = c.args.self.now in (
-      omega (arith, job-count s, c.requires.room),
-      (
-        omega arith,
-        (
-          search (rules, length-set),
-          (
-            search rules,
-            (
-              throughout_one_more Entered (job_of 0 0 0 0) s.jobs s.job_count c.args.job (omega (arith, job-count s, c.requires.room)) s.entered c.requires.entered,
-              (linked-among_more _ _ s.linked, tt),
-            ),
-          ),
-        ),
-      ),
-    )
+pub invariant_of-self : goal.invariant_of-self
+invariant_of-self c =
+    let s = c.args.self.now in
+    record {
+      jobs_fit = omega (arith, job-count s, c.requires.room);
+      links_fit = omega arith;
+      job_places = search (rules, length-set);
+      link_places = search rules;
+      entered = throughout_one_more Entered (job_of 0 0 0 0) s.jobs s.job_count c.args.job (omega (arith, job-count s, c.requires.room)) s.entered c.requires.entered;
+      linked = linked-among_more _ _ s.linked;
+    }
 
 pub returns : goal.returns
 returns c =

@@ -9,29 +9,19 @@ use Rattle.sheet.proofs.Tables.{throughout_one_more}
 use Rattle.sheet.proofs.Soundness.{job-count, link-count}
 use Rattle.sheet.proofs.table.Sheet.push_link.Goals as goal
 
-pub invariant-of-self : goal.invariant-of-self
-invariant-of-self c =
+pub invariant_of-self : goal.invariant_of-self
+invariant_of-self c =
     let s = c.args.self.now in
-    let h : s.link_count < length s.links = omega (arith, link-count s, c.requires.room) in (
-      omega arith,
-      (
-        omega (arith, link-count s, c.requires.room),
-        (
-          search rules,
-          (
-            search (rules, length-set),
-            (
-              s.entered,
-              (
-                throughout_one_more (Linked s.job_count) (link_of 0 0 0) s.links s.link_count c.args.link h s.linked
-                    (subst (λ (n : ℕ). Linked n c.args.link) (job-count s) c.requires.linked),
-                tt,
-              ),
-            ),
-          ),
-        ),
-      ),
-    )
+    let h : s.link_count < length s.links = omega (arith, link-count s, c.requires.room) in
+    record {
+      jobs_fit = omega arith;
+      links_fit = omega (arith, link-count s, c.requires.room);
+      job_places = search rules;
+      link_places = search (rules, length-set);
+      entered = s.entered;
+      linked = throughout_one_more (Linked s.job_count) (link_of 0 0 0) s.links s.link_count c.args.link h s.linked
+                    (subst (λ (n : ℕ). Linked n c.args.link) (job-count s) c.requires.linked);
+    }
 
 pub returns : goal.returns
 returns c =

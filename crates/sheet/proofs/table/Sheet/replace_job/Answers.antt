@@ -9,25 +9,18 @@ use Rattle.sheet.proofs.Tables.{throughout_written_over}
 use Rattle.sheet.proofs.Soundness.{job-count}
 use Rattle.sheet.proofs.table.Sheet.replace_job.Goals as goal
 
-pub invariant-of-self : goal.invariant-of-self
-invariant-of-self c =
+pub invariant_of-self : goal.invariant_of-self
+invariant_of-self c =
     let s = c.args.self.now in
-    let h : c.args.place < s.job_count = omega (arith, job-count s, c.requires.there) in (
-      omega arith,
-      (
-        omega arith,
-        (
-          search (rules, length-set),
-          (
-            search rules,
-            (
-              throughout_written_over Entered (job_of 0 0 0 0) s.jobs s.job_count c.args.place c.args.job h s.entered c.requires.entered,
-              (s.linked, tt),
-            ),
-          ),
-        ),
-      ),
-    )
+    let h : c.args.place < s.job_count = omega (arith, job-count s, c.requires.there) in
+    record {
+      jobs_fit = omega arith;
+      links_fit = omega arith;
+      job_places = search (rules, length-set);
+      link_places = search rules;
+      entered = throughout_written_over Entered (job_of 0 0 0 0) s.jobs s.job_count c.args.place c.args.job h s.entered c.requires.entered;
+      linked = s.linked;
+    }
 
 pub returns : goal.returns
 returns c =

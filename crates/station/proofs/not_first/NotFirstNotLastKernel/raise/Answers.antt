@@ -9,14 +9,14 @@ use Rattle.station.proofs.not_first.NotFirstNotLastKernel.raise.Goals as goal
 
 pub returns : goal.returns
 returns c =
-    let sorted = c.sort-starts.ensures in
-    let U = c.sort-starts.new.tasks in
+    let sorted = c.sort_starts.ensures in
+    let U = c.sort_starts.new.tasks in
     record {
       load = refl;
       shuffled = sorted.shuffled;
       raised = λ r q h.
           let k = length_permutation _ _ sorted.shuffled in
-          c.raise-from-all.ensures q (omega arith) ∙
+          c.raise_from_all.ensures q (omega arith) ∙
           not_first_exact _ U (same-shuffled _ U sorted.shuffled) c.requires.formed sorted.formed
           (pairwise_from (λ s t. t.end ≤ s.end) U (λ j k h l. ltb-false _ _ (sorted.ordered j k h l))) q (omega arith);
     }
