@@ -35,9 +35,9 @@ returns-then-raise_by_job g c =
     record {
       load = c.if-raise_by_job.ensures.load ∙ ap g.K.Kernel.overloaded e;
       lows = λ r. absurd (both_ways true r refl);
-      other-lows = λ k n. c.if-raise_by_job.ensures.kept k (subst (All (λ t. t.job ≡ k → ⊥)) (sym e) (tasks_others js ws c.requires.entered c.requires.few f c.args.station k n));
+      other_lows = λ k n. c.if-raise_by_job.ensures.kept k (subst (All (λ t. t.job ≡ k → ⊥)) (sym e) (tasks_others js ws c.requires.entered c.requires.few f c.args.station k n));
       backs = λ r. absurd (both_ways true r refl);
-      other-backs = λ k n. refl;
+      other_backs = λ k n. refl;
     }
 
 pub reverse_time-requires : goal.reverse_time-requires
@@ -71,7 +71,7 @@ returns g c =
     record {
       load = back.load ∙ ap g.K.Kernel.overloaded m ∙ g.met.K.Kernel.lawful.mirrored_load U fit;
       lows = λ r k h at. all_in (λ t. get_or c.raise_by_job.new.out t.job 0 ≡ g.K.Kernel.earliest t U) (task_in js ws c.requires.entered c.requires.few f x k h at) (raised_as g.K.Kernel.earliest _ U e _ (forth.raised refl));
-      other-lows = λ k n. forth.kept k (subst (All (λ t. t.job ≡ k → ⊥)) (sym e) (tasks_others js ws c.requires.entered c.requires.few f x k n));
+      other_lows = λ k n. forth.kept k (subst (All (λ t. t.job ≡ k → ⊥)) (sym e) (tasks_others js ws c.requires.entered c.requires.few f x k n));
       backs = λ r k h at. all_in (λ t. get_or c.raise_by_job-2.new.out t.job 0 ≡ g.K.Kernel.earliest t (map mirror U)) (in_map mirror (task_in js ws c.requires.entered c.requires.few f x k h at)) (raised_as g.K.Kernel.earliest _ (map mirror U) m _ (back.raised r));
-      other-backs = λ k n. back.kept k (subst (All (λ t. t.job ≡ k → ⊥)) (sym m) (All-map (λ t. t.job ≡ k → ⊥) mirror U (tasks_others js ws c.requires.entered c.requires.few f x k n)));
+      other_backs = λ k n. back.kept k (subst (All (λ t. t.job ≡ k → ⊥)) (sym m) (All-map (λ t. t.job ≡ k → ⊥) mirror U (tasks_others js ws c.requires.entered c.requires.few f x k n)));
     }

@@ -13,8 +13,8 @@ loop-job-preserved c =
     let i = c.loop-job.job in
     let small : slack (window ws i) ≤ last_minute = slack_small ws i c.requires c.loop-job-test.true in
     elim c.if-w.branch [
-      | then-w+then-w-least w ↦ best_is ws _ _ _ _ _ w.best_is w.least-is (best_new ws i _ _ (omega (arith, w.if-w.true)) w.if-w-least.true c.loop-job.invariant)
-      | else-w w ↦ best_is ws _ _ _ _ _ w.best_is w.least-is (best_old ws i _ _ (elim w.else-w.branch [
+      | then-w+then-w-least w ↦ best_is ws _ _ _ _ _ w.best-is w.least-is (best_new ws i _ _ (omega (arith, w.if-w.true)) w.if-w-least.true c.loop-job.invariant)
+      | else-w w ↦ best_is ws _ _ _ _ _ w.best-is w.least-is (best_old ws i _ _ (elim w.else-w.branch [
         | else-w-via-then-w+else-w-least v ↦ (λ x. v.if-w-least.false)
         | else-w-via-else-w v ↦ (λ x. absurd (omega (arith, v.if-w.false)))
       ]) small c.loop-job.invariant)

@@ -17,4 +17,4 @@ pub loop-windows-smaller : goal.loop-windows-smaller
 loop-windows-smaller g c = (one_round g c).narrower
 
 pub loop-windows-preserved : goal.loop-windows-preserved
-loop-windows-preserved g c = ((one_round g c).well_formed-2, (one_round g c).goes_on ∙ c.loop-windows.invariant.1)
+loop-windows-preserved g c = ((one_round g c).well_formed, (one_round g c).goes_on ∙ c.loop-windows.invariant.1)

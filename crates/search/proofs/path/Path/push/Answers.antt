@@ -9,7 +9,10 @@ bounds-self-depth c = let p = c.args.self.now in omega (arith, newest-length p.p
 pub invariant_of-self : goal.invariant_of-self
 invariant_of-self c =
     let p = c.args.self.now in
-    (omega (arith, newest-length p.places p.depth (omega arith), c.requires.room), (search (rules, length-set), tt))
+    record {
+      fits = omega (arith, newest-length p.places p.depth (omega arith), c.requires.room);
+      whole = search (rules, length-set);
+    }
 
 pub returns : goal.returns
 returns c =
