@@ -7,18 +7,21 @@ use Rattle.planner.proofs.state.Search.backtrack.Goals as goal
 
 pub invariant_of-self : goal.invariant_of-self
 invariant_of-self g c =
-    let s = c.args.self.now in (
-      s.start_places,
-      (
-        back_grown s _ c.backtrack.ensures.after,
-        ((λ e. shut_path (path_in s) _ c.if-not-backtrack.ensures.answer c.backtrack.ensures.after), tt),
-      ),
-    )
+    let s = c.args.self.now in
+    record {
+      start_places = s.start_places;
+      grown = back_grown s _ c.backtrack.ensures.after;
+      no_path = (λ e. shut_path (path_in s) _ c.if-not-backtrack.ensures.answer c.backtrack.ensures.after);
+    }
 
 pub invariant_of-self-else-not-backtrack : goal.invariant_of-self-else-not-backtrack
 invariant_of-self-else-not-backtrack g c =
     let s = c.args.self.now in
-    (s.start_places, (back_grown s _ c.backtrack.ensures.after, ((λ e. absurd (open_not-impossible c.requires e)), tt)))
+    record {
+      start_places = s.start_places;
+      grown = back_grown s _ c.backtrack.ensures.after;
+      no_path = (λ e. absurd (open_not-impossible c.requires e));
+    }
 
 pub returns-then-not-backtrack : goal.returns-then-not-backtrack
 returns-then-not-backtrack g c = record { state = sym (shut (path_in c.args.self.now) c.if-not-backtrack.ensures.answer); sheet = refl; pile = refl }

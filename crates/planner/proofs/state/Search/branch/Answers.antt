@@ -23,7 +23,11 @@ push-requires g c =
 pub invariant_of-self : goal.invariant_of-self
 invariant_of-self g c =
     let s = c.args.self.now in
-    (s.start_places, (pushed_grown s (lawful g s) c.args.windows.now c.requires.narrowed c.in-Some.job _ _ c.in-Some.ensures.chooses c.on.ensures c.push.ensures, ((λ e. absurd (open_not-impossible c.requires.open e)), tt)))
+    record {
+      start_places = s.start_places;
+      grown = pushed_grown s (lawful g s) c.args.windows.now c.requires.narrowed c.in-Some.job _ _ c.in-Some.ensures.chooses c.on.ensures c.push.ensures;
+      no_path = (λ e. absurd (open_not-impossible c.requires.open e));
+    }
 
 pub note_starts-requires : goal.note_starts-requires
 note_starts-requires g c =
