@@ -1,8 +1,8 @@
 -- What a planner stands for.
 use Rattle.sheet.specs.Sheets.{entries}
 use Rattle.planner.specs.States.{entries_of, state_of}
-use Rattle.calls.specs.declared.planner.Planner.{Planner}
-use Rattle.calls.specs.declared.planner.Planner.TheVariants.{Drafting, Searching}
+use Rattle.calls.specs.declared.planning.Planner.{Planner}
+use Rattle.calls.specs.declared.planning.Planner.TheVariants.{Drafting, Searching}
 use Rattle.calls.specs.Stages.{Stage, drafting, searching}
 
 abbrev pub stage_of : {P : Type 0} → Planner P → Stage

@@ -7,7 +7,7 @@ ghost use Rattle.calls.specs.Planners.{stage_of, pile_of};
 ghost use Rattle.calls.specs.Carrying.{CarriesOn};
 
 use crate::call::{Answer, Call};
-use crate::planner::Planner;
+use crate::planning::Planner;
 use planner::draft::Draft;
 use planner::state::Search;
 use rule::narrowing::Rule;

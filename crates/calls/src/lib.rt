@@ -3,4 +3,4 @@
 
 pub mod call;
 pub mod carrying;
-pub mod planner;
+pub mod planning;

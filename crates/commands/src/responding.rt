@@ -6,7 +6,7 @@ ghost use Rattle.commands.specs.Responding.{reply_to, stage_past, Responds};
 
 use crate::buffer::LineBuffer;
 use crate::reply::Reply;
-use calls::planner::Planner;
+use calls::planning::Planner;
 use rule::narrowing::Rule;
 
 /// Carries out the call that the line writes, and answers it. An ill written line changes nothing.

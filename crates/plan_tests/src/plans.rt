@@ -35,7 +35,7 @@ fn the_example_is_planned(rt: HostRuntime) -> Result<(), Fail> {
     let Some(starts) = report.timetable() else {
         return Err(Fail::new("no timetable"));
     };
-    assert_eq!(rt; starts, &[0u32, 5]);
+    assert_eq!(rt; starts, [0u32, 5].as_slice());
     Ok(())
 }
 

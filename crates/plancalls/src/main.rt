@@ -1,7 +1,7 @@
 // Calls on standard input, one a line, and an answer line for each, with the house pile.
 #![tactic(auto)]
 
-use calls::planner::Planner;
+use calls::planning::Planner;
 use commands::buffer::LineBuffer;
 use commands::responding::respond;
 use house::pile::HOUSE_PILE;

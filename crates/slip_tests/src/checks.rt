@@ -17,20 +17,20 @@ fn used_sheet() -> Result<Sheet, Fail> {
 /// The slip has the fault, and leaves the sheet empty.
 pub(crate) fn check_fault(
     rt: &impl Abort,
-    slip: &[u8],
+    slip: &str,
     number: u32,
     line: usize,
     inside: u32,
 ) -> Result<(), Fail> {
     let mut sheet = used_sheet()?;
-    let Err(fault) = read_slip(&mut sheet, slip) else {
-        return Err(Fail::new("taken"));
+    let Err(fault) = read_slip(&mut sheet, slip.as_bytes()) else {
+        return Err(Fail::new(slip));
     };
-    assert_eq!(rt; fault.number(), number, "number");
-    assert_eq!(rt; fault.line(), line, "line");
-    assert_eq!(rt; fault.inside(), inside, "inside");
-    assert_eq!(rt; sheet.jobs().len(), 0, "jobs left");
-    assert_eq!(rt; sheet.links().len(), 0, "links left");
+    assert_eq!(rt; fault.number(), number, "number: {slip}");
+    assert_eq!(rt; fault.line(), line, "line: {slip}");
+    assert_eq!(rt; fault.inside(), inside, "inside: {slip}");
+    assert_eq!(rt; sheet.jobs().len(), 0, "jobs left: {slip}");
+    assert_eq!(rt; sheet.links().len(), 0, "links left: {slip}");
     Ok(())
 }
 

@@ -141,7 +141,7 @@ static REFUSED: [(&str, u32, usize, u32); 21] = [
 
 fn check_all(rt: &impl Abort, slips: &[(&str, u32, usize, u32)]) -> Result<(), Fail> {
     for (slip, number, line, inside) in slips {
-        check_fault(rt, slip.as_bytes(), *number, *line, *inside).note(*slip)?;
+        check_fault(rt, slip, *number, *line, *inside)?;
     }
     Ok(())
 }

@@ -27,11 +27,11 @@ fn push_links(slip: &mut String, count: u32) -> Result<(), Fail> {
 #[test]
 fn long_slips(rt: HostRuntime) -> Result<(), Fail> {
     let bytes = repeated(rt.alloc(), "J", MAX_SLIP)?;
-    check_fault(&rt, bytes.as_bytes(), 21, 1, 0)?;
+    check_fault(&rt, bytes.as_str(), 21, 1, 0)?;
     let lines = repeated(rt.alloc(), "\n", MAX_SLIP)?;
-    check_fault(&rt, lines.as_bytes(), 22, 1, 0)?;
+    check_fault(&rt, lines.as_str(), 22, 1, 0)?;
     let longer = repeated(rt.alloc(), "\n", MAX_SLIP + 1)?;
-    check_fault(&rt, longer.as_bytes(), 20, 0, 0)
+    check_fault(&rt, longer.as_str(), 20, 0, 0)
 }
 
 #[test]
@@ -49,8 +49,8 @@ fn full_sheet(rt: HostRuntime) -> Result<(), Fail> {
 #[test]
 fn overfull_sheets(rt: HostRuntime) -> Result<(), Fail> {
     let jobs = repeated(rt.alloc(), "J 0 1 0 1\n", 49)?;
-    check_fault(&rt, jobs.as_bytes(), 25, 49, 2)?;
+    check_fault(&rt, jobs.as_str(), 25, 49, 2)?;
     let mut links = repeated(rt.alloc(), "J 0 1 0 1\n", 11)?;
     push_links(&mut links, 97)?;
-    check_fault(&rt, links.as_bytes(), 25, 108, 10)
+    check_fault(&rt, links.as_str(), 25, 108, 10)
 }

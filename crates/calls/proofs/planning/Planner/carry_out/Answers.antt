@@ -1,7 +1,7 @@
 -- The promise of every list of calls, from what one call answers and leads to, by the laws of the pile.
 use Rattle.calls.specs.Planners.{stage_of, pile_of}
 use Rattle.calls.proofs.Keeping.{carries_on}
-use Rattle.calls.proofs.planner.Planner.carry_out.Goals as goal
+use Rattle.calls.proofs.planning.Planner.carry_out.Goals as goal
 
 pub returns : goal.returns
 returns g c =
