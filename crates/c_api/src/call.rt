@@ -1,4 +1,4 @@
-// The one function that C programs call.
+// The one function that C programs call, through the crate c_api_c.
 ghost use Rattle.std.specs.Prelude.{◌≡◌, ℕ, ◌*◌, ◌/◌, ◌≤◌, ◌<◌, length, get_or};
 ghost use Rattle.slip.specs.Faults.{fault_line, last_line};
 ghost use Rattle.planner.specs.States.{state_of};
@@ -52,8 +52,7 @@ fn report_answer(report: Report<HousePile>, buffer: &mut [u8]) -> u32
 /// + 1,000,000 × the refusal inside; else 11 for looks of 0 or above 1,000,000, or 14 for a buffer
 /// below 2 bytes a job. On found the buffer has each start as two bytes, low byte first; its other
 /// bytes, and on all else the whole buffer, are untouched.
-#[unsafe(no_mangle)]
-pub extern "C" fn riuvelde_plan(slip: &[u8], looks: u32, buffer: &mut [u8]) -> u32
+pub fn riuvelde_plan(slip: &[u8], looks: u32, buffer: &mut [u8]) -> u32
     ensures answer { result ≡ answer (plan_slip house_cut slip.now looks (length buffer.old / 2)) }
     ensures buffer { buffer.new ≡ buffer_after (plan_slip house_cut slip.now looks (length buffer.old / 2)) buffer.old }
     ensures hall { InTheHallsWords slip.now looks (length buffer.old / 2) (plan_slip house_cut slip.now looks (length buffer.old / 2)) }

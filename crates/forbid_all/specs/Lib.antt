@@ -1,4 +1,3 @@
 -- What the contracts of ForbidAll cite.
 pub mod ForbidAll
 pub mod Single
-pub mod ForbidAllRuleLemmas
