@@ -1,5 +1,5 @@
 -- What the call answers, and what the buffer then has, by what planning the slip tells.
-use Rattle.std.specs.Prelude.{◌≡◌, List, ℕ, ◌+◌, ◌*◌, ◌≤◌, ◌<◌, length, get_or}
+use Rattle.std.specs.Prelude.{List, ℕ, ◌+◌, ◌*◌, ◌≤◌, ◌<◌, length, get_or}
 use Rattle.sheet.specs.Refusals.{refusal_number}
 use Rattle.slip.specs.declared.fault.Fault.{Fault}
 use Rattle.slip.specs.Faults.{fault_number, fault_line, fault_inside, last_line}

@@ -1,9 +1,9 @@
 -- Every list of calls that is carried out by the definitions keeps the promise.
-use Rattle.std.proofs.Common.{◌≡◌, ℕ, ◌+◌, Bool, true, false, cond, ◌||◌, eqb, ltb, leb, ◌⊎◌, List, [], ◌∷◌, ◌++◌, length, get_or, Ok, Err, Result, sym, refl, ap, ◌∙◌, subst, ⊎_elim, arith}
+use Rattle.std.proofs.Common.{◌≡◌, ℕ, ◌+◌, Bool, true, false, cond, ◌||◌, eqb, ltb, leb, List, [], ◌∷◌, ◌++◌, length, Ok, Err, Result, sym, refl, ap, ◌∙◌, subst}
 use Rattle.sheet.specs.declared.records.Window.{Window}
 use Rattle.sheet.specs.declared.refusal.Refusal.{Refusal}
 use Rattle.sheet.specs.declared.refusal.Refusal.TheVariants.{UnknownJob, LooksOutOfRange}
-use Rattle.sheet.specs.Entries.{Entries, no_entries, job_of, link_of, with_job, with_link, moved}
+use Rattle.sheet.specs.Entries.{Entries, job_of, link_of, with_job, with_link, moved}
 use Rattle.sheet.specs.Entering.{enter_answer, link_answer, move_answer, taken}
 use Rattle.sheet.specs.Sound.{Sound}
 use Rattle.sheet.proofs.Accepting.{none-sound, enter_sound, link-sound, move_sound}
@@ -12,14 +12,14 @@ use Rattle.rule.specs.Laws.{Lawful}
 use Rattle.search.specs.Outcomes.{outcome_number}
 use Rattle.search.specs.Looks.{State, opened, found, impossible, outcome_of, one_look, after_looks, looks_made}
 use Rattle.search.proofs.Rows.{after-add, made_add}
-use Rattle.planner.specs.Calls.{most_looks, advance_answer, start_answer, found_start}
+use Rattle.planner.specs.Calls.{most_looks, found_start}
 use Rattle.calls.specs.declared.call.Call.{Call}
 use Rattle.calls.specs.declared.call.Call.TheVariants.{Enter, Link, Move, Close, Advance, Start, Reopen}
 use Rattle.calls.specs.declared.call.Answer.{Answer}
-use Rattle.calls.specs.declared.call.Answer.TheVariants.{Number, Refused, Closed, Advanced, Reopened, OutOfTurn}
+use Rattle.calls.specs.declared.call.Answer.TheVariants.{Advanced}
 use Rattle.calls.specs.Stages.{Stage, drafting, searching, fresh, numbered, own, zero, advanced_or_refused, answer_of, stage_after, Leads}
 use Rattle.calls.specs.Ledgers.{Ledger, no_calls, if_number, with_sheet, with_advance, noted}
-use Rattle.calls.specs.Promise.{Owed, StartAnswered, AdvanceAnswered, PromiseKept}
+use Rattle.calls.specs.Promise.{Owed, StartAnswered, PromiseKept}
 use Rattle.calls.specs.Carrying.{CarriesOn}
 use Rattle.calls.proofs.Owing.{advance_owes}
 

@@ -1,5 +1,5 @@
 -- What a search that was granted so many looks owes, in the terms of a ledger.
-use Rattle.std.proofs.Common.{◌≡◌, ℕ, ◌-◌, ◌*◌, ◌≤◌, ◌⊎◌, ◌↔◌, List, [], length, get_or, sym, refl, ap, ◌∙◌, subst, ⊎_elim, arith}
+use Rattle.std.proofs.Common.{◌≡◌, ℕ, ◌⊎◌, ◌↔◌, List, [], length, sym, refl, ap, ◌∙◌, subst, ⊎_elim, arith}
 use Rattle.sheet.specs.declared.records.Window.{Window}
 use Rattle.sheet.specs.Entries.{Entries}
 use Rattle.sheet.specs.Sound.{Sound}
@@ -12,7 +12,7 @@ use Rattle.search.specs.Looks.{State, opened, found, impossible, outcome_of, one
 use Rattle.search.specs.Promise.{Promise}
 use Rattle.search.proofs.Promised.{promised_once}
 use Rattle.calls.specs.Ledgers.{Ledger}
-use Rattle.calls.specs.Promise.{Fitting, NoneFits, FoundTimetable, AdvanceOwes}
+use Rattle.calls.specs.Promise.{NoneFits, AdvanceOwes}
 
 -- a state by the number of its outcome
 impossible_by_number : (x : State) → outcome_number (outcome_of x) ≡ outcome_number Impossible → x ≡ impossible

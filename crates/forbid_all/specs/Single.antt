@@ -4,7 +4,7 @@ use Rattle.std.proofs.Common.{sym, subst, ◌∙◌, ⊎_elim, arith}
 use Rattle.std.proofs.lemmas.Bool.{and_from, eq-eqb, cond-true, cond-false, cases_Bool}
 use Rattle.sheet.specs.declared.records.Window.{Window}
 use Rattle.rule.specs.Windows.{Formed, Within, Single}
-use Rattle.rule.specs.Cuts.{Cut, dead, live}
+use Rattle.rule.specs.Cuts.{dead, live}
 use Rattle.rule.specs.Forming.{still_within, dead-not-live}
 use Rattle.forbid_all.specs.ForbidAll.{all_single}
 

@@ -1,12 +1,11 @@
 -- What the house pile admits within the entered windows is what the hall can work by.
-use Rattle.std.proofs.Common.{◌≡◌, ℕ, ◌+◌, ◌-◌, ◌<◌, ◌≤◌, List, map, length, get_or, sym, ap, ◌∙◌, subst, arith}
+use Rattle.std.proofs.Common.{◌≡◌, ℕ, ◌-◌, ◌<◌, ◌≤◌, List, length, get_or, sym, ◌∙◌, subst, arith}
 use lib.ListN.{length-map}
 use Rattle.std.proofs.lemmas.List.{get_or-map}
-use Rattle.sheet.specs.declared.records.Job.{Job}
 use Rattle.sheet.specs.declared.records.Window.{Window}
 use Rattle.sheet.specs.Entries.{Entries, job, job_of}
 use Rattle.sheet.specs.Sound.{Sound}
-use Rattle.rule.specs.Windows.{window, window_of, Inside}
+use Rattle.rule.specs.Windows.{window, window_of}
 use Rattle.search.specs.Entered.{entered_window, entered_windows}
 use Rattle.search.specs.Promise.{Fits}
 use Rattle.report.specs.declared.reported.Unplanned.TheVariants.{Faulty, Refused}

@@ -6,7 +6,6 @@ use Rattle.slip.specs.Texts.{SlipOf}
 use Rattle.slip.specs.Faulty.{Faulty as Fault-of}
 use Rattle.search.specs.declared.decision.Decision.{Decision}
 use Rattle.search.specs.Looks.{State, opened, found, impossible}
-use Rattle.report.specs.declared.reported.Unplanned.{Unplanned}
 use Rattle.report.specs.declared.reported.Unplanned.TheVariants.{Faulty, Refused}
 use Rattle.report.specs.Planning.{Told, planned, unplanned, RefusedFor}
 

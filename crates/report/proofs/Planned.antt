@@ -1,5 +1,5 @@
 -- A search that was closed from a draft and advanced once, in the terms of the draft's pile p and sheet e.
-use Rattle.std.proofs.Common.{◌≡◌, ℕ, ◌+◌, ◌≤◌, Bool, false, ◌||◌, eqb, ltb, List, [], length, Ok, Result, sym, ap, ◌∙◌, subst, zero-add}
+use Rattle.std.proofs.Common.{◌≡◌, ℕ, ◌+◌, ◌≤◌, false, ◌||◌, eqb, ltb, List, [], length, Ok, Result, sym, ap, ◌∙◌, subst, zero-add}
 use Rattle.std.proofs.lemmas.Bool.{cond-false}
 use Rattle.sheet.specs.declared.records.Window.{Window}
 use Rattle.sheet.specs.declared.refusal.Refusal.{Refusal}
@@ -9,7 +9,7 @@ use Rattle.rule.specs.Cuts.{Cut}
 use Rattle.search.specs.Looks.{State, opened, one_look, after_looks, looks_made}
 use Rattle.search.specs.Promise.{Promise}
 use Rattle.planner.specs.Calls.{most_looks, advance_answer}
-use Rattle.report.specs.Planning.{Told, planned, plan_sheet, OwesSheet}
+use Rattle.report.specs.Planning.{planned, plan_sheet, OwesSheet}
 
 -- the search has the pile q, the sheet d and afterwards c, started at s, and stands at x after m of g looks
 pub record Advanced {P : Type 0} (cut : P → Entries → List Window → Cut) (p q : P) (e d c : Entries) (s x : State) (g m : ℕ) : Type 0 where

@@ -1,10 +1,10 @@
 -- What a rule owes that sets all bounds together.
-use Rattle.std.proofs.Common.{◌≡◌, ℕ, zero, suc, ◌+◌, ◌-◌, ◌<◌, ◌≤◌, Bool, true, false, cond, ◌&&◌, ltb, ◌⊎◌, List, [], ◌∷◌, ◌++◌, length, get_or, take, set, sym, refl, ap, ◌∙◌, subst, inl, inr, ⊎_elim, add-one, arith}
+use Rattle.std.proofs.Common.{◌≡◌, ℕ, zero, suc, ◌+◌, ◌<◌, ◌≤◌, true, false, List, [], ◌∷◌, ◌++◌, length, get_or, take, set, sym, refl, ap, ◌∙◌, subst, ⊎_elim, add-one, arith}
 use lib.ListN.{get_or-append}
-use Rattle.std.proofs.lemmas.Bool.{both_ways, cases_Bool, cases_eq, cond-true, cond-false, and_parts, and_from, and_left, and_right, ltb-true, le-ltb, lt-ltb}
+use Rattle.std.proofs.lemmas.Bool.{cases_Bool, cases_eq, cond-true, cond-false, and_parts, and_from, ltb-true, lt-ltb}
 use Rattle.std.proofs.lemmas.List.{get_or_push, length_push, take_more_set}
 use Rattle.sheet.specs.declared.records.Window.{Window}
-use Rattle.rule.specs.Windows.{window, window_of, Within, Inside}
+use Rattle.rule.specs.Windows.{window, window_of, Within}
 use Rattle.rule.specs.Cuts.{Cut, dead, live}
 use Rattle.rule.specs.Bounds.{between, tabulate, all_open, together}
 use Rattle.rule.specs.Laws.{Keeps}

@@ -1,10 +1,10 @@
 -- What the tests of windows say, and windows within windows.
-use Rattle.std.specs.Prelude.{◌≡◌, ℕ, zero, suc, ◌+◌, ◌<◌, ◌≤◌, Bool, true, false, ◌&&◌, List, [], ◌∷◌, length, drop, ◌≢◌, refl}
-use Rattle.std.proofs.Common.{sym, ap, ◌∙◌, le_of_suc-le-suc, not-suc-le-zero, add-one, arith, drop_of_length-le, drop-cons}
+use Rattle.std.specs.Prelude.{◌≡◌, ℕ, zero, suc, ◌+◌, ◌<◌, ◌≤◌, Bool, true, ◌&&◌, List, [], ◌∷◌, length, drop, ◌≢◌, refl}
+use Rattle.std.proofs.Common.{ap, ◌∙◌, le_of_suc-le-suc, not-suc-le-zero, add-one, arith, drop_of_length-le, drop-cons}
 use Rattle.std.proofs.lemmas.Bool.{and_parts, and_from, leb-true, le-leb, eqb-true, eq-eqb}
 use Rattle.sheet.specs.declared.records.Window.{Window}
-use Rattle.rule.specs.Windows.{window, window_of, fine, all_fine, formed, Formed, Within, Single, same}
-use Rattle.rule.specs.Cuts.{Cut, dead, live}
+use Rattle.rule.specs.Windows.{window, window_of, fine, all_fine, formed, Formed, Within, Single}
+use Rattle.rule.specs.Cuts.{dead, live}
 
 pub fine_step : (ws : List Window) (i : ℕ) → i < length ws → all_fine (drop i ws) ≡ (fine (window ws i) && all_fine (drop (i + 1) ws))
 fine_step ws i h = rw add-one (ap all_fine (drop-cons ws i (window_of 0 0) h))

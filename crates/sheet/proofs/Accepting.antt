@@ -1,12 +1,12 @@
 -- What a sheet accepts keeps it sound.
-use Rattle.std.proofs.Common.{◌≡◌, ℕ, ◌+◌, ◌<◌, ◌≤◌, Bool, true, false, cond, ◌||◌, eqb, ltb, leb, ◌⊎◌, List, [], ◌∷◌, ◌++◌, length, get_or, set, Ok, Err, Result, sym, refl, ap, ◌∙◌, subst, ⊎_elim, arith, length-set}
+use Rattle.std.proofs.Common.{◌≡◌, ℕ, ◌+◌, ◌<◌, ◌≤◌, Bool, true, false, cond, [], ◌∷◌, ◌++◌, length, set, Ok, Err, Result, sym, refl, subst, arith, length-set}
 use Rattle.std.proofs.ByRecursion.{All-get_or, All-from_get_or, All-push, All-set}
 use Rattle.std.proofs.lemmas.List.{length_push}
-use Rattle.std.proofs.lemmas.Bool.{cases_Bool, cond-true, cond-false, or_parts, leb-false, ltb-false, eqb-false, both_ways}
+use Rattle.std.proofs.lemmas.Bool.{or_parts, leb-false, ltb-false, eqb-false}
 use Rattle.sheet.specs.declared.records.Job.{Job}
 use Rattle.sheet.specs.declared.records.Link.{Link}
 use Rattle.sheet.specs.declared.refusal.Refusal.{Refusal}
-use Rattle.sheet.specs.Entries.{Entries, no_entries, job, job_of, link, link_of, with_job, with_link, moved}
+use Rattle.sheet.specs.Entries.{Entries, no_entries, job, job_of, link_of, with_job, with_link, moved}
 use Rattle.sheet.specs.Sound.{Sound, Entered, Linked, AllLinked}
 use Rattle.sheet.specs.Entering.{enter_answer, link_answer, move_answer}
 use Rattle.sheet.proofs.Linking.{linked-among_more}

@@ -1,5 +1,5 @@
 -- Links among more jobs, and a search through the links.
-use Rattle.std.proofs.Common.{◌≡◌, ℕ, suc, ◌+◌, ◌<◌, ◌≤◌, Bool, true, false, ◌&&◌, ◌||◌, eqb, List, [], ◌∷◌, length, get_or, drop, sym, refl, ap, ◌∙◌, add-one, arith, drop_of_length-le, drop-cons}
+use Rattle.std.proofs.Common.{◌≡◌, ℕ, suc, ◌+◌, ◌<◌, ◌≤◌, Bool, false, ◌&&◌, ◌||◌, eqb, List, length, drop, ap, ◌∙◌, add-one, arith, drop_of_length-le, drop-cons}
 use Rattle.sheet.specs.declared.records.Link.{Link}
 use Rattle.sheet.specs.Entries.{link, link_of}
 use Rattle.sheet.specs.Sound.{AllLinked}

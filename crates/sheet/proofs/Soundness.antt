@@ -1,5 +1,5 @@
 -- Every sheet is sound.
-use Rattle.std.proofs.Common.{◌≡◌, ℕ, ◌<◌, ◌≤◌, length, take, sym, subst, arith, length-take-le}
+use Rattle.std.proofs.Common.{◌≡◌, ℕ, length, sym, subst, arith, length-take-le}
 use Rattle.sheet.specs.declared.table.Sheet.{Sheet}
 use Rattle.sheet.specs.Sheets.{entries}
 use Rattle.sheet.specs.Sound.{Sound, AllLinked}

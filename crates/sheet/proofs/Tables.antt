@@ -1,5 +1,5 @@
 -- What holds of every record in a table's first places, after one more is written and after one is written over.
-use Rattle.std.proofs.Common.{◌≡◌, ℕ, ◌+◌, ◌<◌, ◌≤◌, List, [], ◌∷◌, ◌++◌, length, get_or, take, set, sym, subst}
+use Rattle.std.proofs.Common.{ℕ, ◌+◌, ◌<◌, List, [], ◌∷◌, ◌++◌, length, get_or, take, set, sym, subst}
 use lib.Seq.{take-set-lt}
 use Rattle.std.proofs.ByRecursion.{All-get_or, All-from_get_or, All-push, All-set}
 use Rattle.std.proofs.lemmas.List.{take_more_set}

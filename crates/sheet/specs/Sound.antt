@@ -1,5 +1,5 @@
 -- What every sheet keeps to.
-use Rattle.std.specs.Prelude.{◌≡◌, ℕ, ◌+◌, ◌<◌, ◌≤◌, List, length, ◌≢◌}
+use Rattle.std.specs.Prelude.{ℕ, ◌+◌, ◌<◌, ◌≤◌, List, length, ◌≢◌}
 use Rattle.sheet.specs.declared.records.Job.{Job}
 use Rattle.sheet.specs.declared.records.Link.{Link}
 use Rattle.sheet.specs.Limits.{most_jobs, most_links, last_station, longest_duration, longest_wait, last_minute}

@@ -1,7 +1,5 @@
 -- The line of a fault is never far down: what an empty sheet takes has few lines.
-use Rattle.std.proofs.Common.{◌≡◌, ℕ, ◌+◌, ◌≤◌, ◌⊎◌, List, [], ◌∷◌, length, Ok, Result, ap, subst, ⊎_elim, arith}
-use Rattle.sheet.specs.declared.records.Job.{Job}
-use Rattle.sheet.specs.declared.records.Link.{Link}
+use Rattle.std.proofs.Common.{◌≡◌, ℕ, ◌+◌, ◌≤◌, List, [], ◌∷◌, Ok, Result, ap, subst, ⊎_elim, arith}
 use Rattle.sheet.specs.declared.refusal.Refusal.{Refusal}
 use Rattle.sheet.specs.Entries.{Entries, no_entries, with_job, with_link}
 use Rattle.sheet.specs.Entering.{enter_answer, link_answer}

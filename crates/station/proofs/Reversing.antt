@@ -9,7 +9,6 @@ use Rattle.station.specs.Limits.{horizon}
 use Rattle.station.specs.Mirror.{mirror}
 use Rattle.station.specs.Tasks.{Fit, Formed, Pairwise}
 use Rattle.station.specs.Members.{In, all_from, all_in, here, in_map, there}
-use Rattle.station.proofs.Scattering.{by_job}
 
 map_all : (P : Task → Type 0) (U : List Task) → ((t : Task) → In t U → P (mirror t)) → All P (map mirror U)
 map_all P U f = All-map P mirror U (all_from _ U f)

@@ -1,5 +1,5 @@
 -- Bytes split at a separator.
-use Rattle.std.specs.Prelude.{◌≡◌, ℕ, cond, List, [], ◌∷◌, ◌==◌, ◌≢◌}
+use Rattle.std.specs.Prelude.{ℕ, cond, List, [], ◌∷◌, ◌==◌, ◌≢◌}
 
 -- what stands before each separator, and what is left after the last one
 pub data Parts : Type 0 where

@@ -1,8 +1,8 @@
 -- One window of more starts is enough to stop.
-use Rattle.std.proofs.Common.{◌≡◌, ◌+◌, Bool, true, false, ◌&&◌, eqb, get_or, drop, sym, ap, ◌∙◌}
+use Rattle.std.proofs.Common.{◌+◌, Bool, ◌&&◌, drop, sym, ap, ◌∙◌}
 use Rattle.std.proofs.lemmas.List.{at_drop_more, at_drop_all}
 use Rattle.std.proofs.lemmas.Bool.{eq-eqb, ne_eqb, and_left}
-use Rattle.rule.specs.Windows.{window, window_of}
+use Rattle.rule.specs.Windows.{window_of}
 use Rattle.forbid_all.specs.ForbidAll.{all_single}
 use Rattle.forbid_all.proofs.all_single.Goals as goal
 

@@ -1,9 +1,8 @@
 -- One start more, and all of them at the end.
-use Prim.Native.Nat.{◌≤◌, ◌*◌}
-use mathlib.Core.Path.{◌≡◌, sym, ◌∙◌}
+use mathlib.Core.Path.{◌≡◌, ◌∙◌}
 use native.Mathlib.Omega.{arith}
-use lib.ListN.{length, take, drop}
-use lib.Seq.{take_all, take-length}
+use lib.ListN.{length}
+use lib.Seq.{take-length}
 use Rattle.c_api.proofs.Encoding.{pair_step}
 use Rattle.c_api.proofs.bytes.write_starts.Goals as goal
 

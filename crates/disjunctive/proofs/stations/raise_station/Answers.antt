@@ -9,7 +9,7 @@ use Rattle.station.specs.Tasks.{Fit, Formed}
 use Rattle.station.specs.Mirror.{mirror}
 use Rattle.station.specs.Members.{all_in, in_map}
 use Rattle.station.proofs.Reversing.{formed-mirror}
-use Rattle.disjunctive.specs.Gathering.{task, tasks_at}
+use Rattle.disjunctive.specs.Gathering.{tasks_at}
 use Rattle.disjunctive.specs.Gathered.{tasks_formed, tasks_numbered, tasks_others, task_in}
 use Rattle.disjunctive.proofs.Running.{from_start, raised_as}
 use Rattle.disjunctive.proofs.stations.raise_station.Goals as goal

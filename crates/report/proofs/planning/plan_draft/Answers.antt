@@ -1,8 +1,7 @@
 -- An accepted advance of the closed draft tells what the definition tells, and keeps the promise.
-use Rattle.std.proofs.Common.{◌≡◌, false, ◌||◌, eqb, ltb, [], length, sym, ap, ◌∙◌, rules}
-use Rattle.std.proofs.lemmas.Bool.{or_from, ne_eqb, le-ltb}
+use Rattle.std.proofs.Common.{◌≡◌, false, eqb, ltb, [], ap, rules}
+use Rattle.std.proofs.lemmas.Bool.{or_from}
 use Rattle.sheet.specs.Sheets.{entries}
-use Rattle.sheet.specs.declared.table.Sheet.{Sheet}
 use Rattle.sheet.proofs.Soundness.{sheet-sound}
 use Rattle.planner.specs.Calls.{most_looks}
 use Rattle.planner.specs.States.{entries_of, state_of}

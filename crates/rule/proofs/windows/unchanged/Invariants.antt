@@ -1,5 +1,5 @@
 -- The windows passed so far are the same.
-use Rattle.std.proofs.Common.{◌≡◌, length, drop}
+use Rattle.std.proofs.Common.{◌≡◌, drop}
 use Rattle.rule.specs.Windows.{same}
 use Rattle.rule.proofs.windows.unchanged.Given as goal
 

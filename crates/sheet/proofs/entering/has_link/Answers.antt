@@ -1,5 +1,5 @@
 -- A link is found where both its ends are those asked for, and passed where one is another.
-use Rattle.std.proofs.Common.{◌≡◌, true, false, sym, ◌∙◌}
+use Rattle.std.proofs.Common.{true, false, sym, ◌∙◌}
 use Rattle.std.proofs.lemmas.Bool.{and_from, and_left, and_right, eq-eqb, ne_eqb}
 use Rattle.sheet.proofs.Linking.{has_link_step, has_link_end}
 use Rattle.sheet.proofs.entering.has_link.Goals as goal

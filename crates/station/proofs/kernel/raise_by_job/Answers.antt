@@ -1,5 +1,5 @@
 -- What is left to show of `raise_by_job`.
-use Rattle.std.proofs.Common.{length, refl, ◌∙◌, arith, length-take}
+use Rattle.std.proofs.Common.{refl, ◌∙◌, arith, length-take}
 use Rattle.std.proofs.lemmas.List.Sorted.{length_permutation}
 use Rattle.std.proofs.ByRecursion.{all_shuffled}
 use Rattle.station.proofs.Shuffles.{formed-shuffled}

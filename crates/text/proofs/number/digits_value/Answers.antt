@@ -1,5 +1,5 @@
 -- A digit adds to the value, and any other byte ends it, as does a value above 32 bits.
-use Rattle.std.proofs.Common.{◌+◌, ◌-◌, drop, sym, ap, ◌∙◌, arith}
+use Rattle.std.proofs.Common.{◌+◌, drop, sym, ap, ◌∙◌, arith}
 use Rattle.text.specs.Numbers.{in_32_bits}
 use Rattle.text.proofs.Digits.{at_digit, below_digits, above_digits, after_digits, above_32_bits}
 use Rattle.text.proofs.number.digits_value.Goals as goal

@@ -1,5 +1,5 @@
 -- The second rule is handed well-formed windows, by the laws of the first.
-use Rattle.std.proofs.Common.{◌≡◌, List, length, sym, ap, ◌∙◌}
+use Rattle.std.proofs.Common.{List, length, sym, ap, ◌∙◌}
 use Rattle.sheet.specs.declared.records.Window.{Window}
 use Rattle.sheet.specs.Sheets.{entries}
 use Rattle.sheet.proofs.Soundness.{sheet-sound}

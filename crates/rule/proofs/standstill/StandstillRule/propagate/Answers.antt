@@ -1,8 +1,7 @@
 -- After a round that narrowed something, what is left is narrower and comes to the same.
-use Rattle.std.proofs.Common.{◌≡◌, length, sym, ap, ◌∙◌, subst}
+use Rattle.std.proofs.Common.{length, sym, ◌∙◌}
 use Rattle.sheet.specs.Sheets.{entries}
 use Rattle.sheet.proofs.Soundness.{sheet-sound}
-use Rattle.rule.specs.Cuts.{left}
 use Rattle.rule.specs.Repeating.{Round, narrowing_round}
 use Rattle.rule.proofs.standstill.StandstillRule.propagate.Given as given
 use Rattle.rule.proofs.standstill.StandstillRule.propagate.Goals as goal

@@ -2,7 +2,7 @@
 use Rattle.std.proofs.Common.{◌<◌, List, length, ap, arith, length-set, rules}
 use Rattle.std.proofs.lemmas.List.{take_more_set}
 use Rattle.sheet.specs.declared.records.Job.{Job}
-use Rattle.sheet.specs.Entries.{Entries, job_of}
+use Rattle.sheet.specs.Entries.{job_of}
 use Rattle.sheet.specs.Sheets.{entries}
 use Rattle.sheet.specs.Sound.{Entered}
 use Rattle.sheet.proofs.Tables.{throughout_one_more}

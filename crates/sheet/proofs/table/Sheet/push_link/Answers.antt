@@ -2,7 +2,7 @@
 use Rattle.std.proofs.Common.{ℕ, ◌<◌, List, length, ap, subst, arith, length-set, rules}
 use Rattle.std.proofs.lemmas.List.{take_more_set}
 use Rattle.sheet.specs.declared.records.Link.{Link}
-use Rattle.sheet.specs.Entries.{Entries, link_of}
+use Rattle.sheet.specs.Entries.{link_of}
 use Rattle.sheet.specs.Sheets.{entries}
 use Rattle.sheet.specs.Sound.{Linked}
 use Rattle.sheet.proofs.Tables.{throughout_one_more}
@@ -20,7 +20,7 @@ invariant_of-self c =
       link_places = search (rules, length-set);
       entered = s.entered;
       linked = throughout_one_more (Linked s.job_count) (link_of 0 0 0) s.links s.link_count c.args.link h s.linked
-                    (subst (λ (n : ℕ). Linked n c.args.link) (job-count s) c.requires.linked);
+          (subst (λ (n : ℕ). Linked n c.args.link) (job-count s) c.requires.linked);
     }
 
 pub returns : goal.returns

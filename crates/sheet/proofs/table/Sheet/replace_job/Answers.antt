@@ -1,8 +1,8 @@
 -- The tables keep to the sheet's facts, with another record in one place.
-use Rattle.std.proofs.Common.{◌<◌, List, length, ap, arith, length-set, rules}
+use Rattle.std.proofs.Common.{◌<◌, List, ap, arith, length-set, rules}
 use lib.Seq.{take-set-lt}
 use Rattle.sheet.specs.declared.records.Job.{Job}
-use Rattle.sheet.specs.Entries.{Entries, job_of}
+use Rattle.sheet.specs.Entries.{job_of}
 use Rattle.sheet.specs.Sheets.{entries}
 use Rattle.sheet.specs.Sound.{Entered}
 use Rattle.sheet.proofs.Tables.{throughout_written_over}
