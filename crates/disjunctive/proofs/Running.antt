@@ -1,6 +1,6 @@
 -- A kernel, run over the stations.
 use Rattle.std.proofs.Common.{◌≡◌, ℕ, zero, suc, ◌+◌, ◌-◌, ◌<◌, ◌≤◌, Bool, true, false, List, map, length, get_or, take, sym, refl, ap, ◌∙◌, subst, ⊎_elim, add-one, arith}
-use Rattle.std.specs.List.{AllByRecursion as All}
+use Rattle.std.specs.List.{AllByRecursion}
 use Rattle.std.proofs.lemmas.Bool.{or_left, or_right, or_from, cases_eq}
 use Rattle.sheet.specs.declared.records.Job.{Job}
 use Rattle.sheet.specs.declared.records.Window.{Window}
@@ -16,8 +16,8 @@ use Rattle.station.specs.Members.{all_in}
 use Rattle.disjunctive.specs.Gathering.{span, task, tasks_at}
 use Rattle.disjunctive.specs.StationCuts.{among, any_below}
 use Rattle.disjunctive.specs.Gathered.{task_in, tasks_formed}
-use Rattle.rule.specs.Windows.{Formed as Well-formed}
-use Rattle.station.specs.Kernels.{Lawful as Kernel-lawful}
+use Rattle.rule.specs.Windows.{Formed as WellFormed}
+use Rattle.station.specs.Kernels.{Lawful as KernelLawful}
 
 pub below_stop : (f : ℕ → Bool) (n x : ℕ) → x < n → f x ≡ true → any_below f n ≡ true
 below_stop f zero x h e = absurd (omega arith)
@@ -44,8 +44,8 @@ filled_more figure js ws vs us x t a b k h l =
 pub from_start : (m : ℕ) (ts L : List Task) → take m ts ≡ L → take (m - 0) ts ≡ L
 from_start m ts L e = let z : m - 0 ≡ m = omega arith in ap (λ (n : ℕ). take n ts) z ∙ e
 
-pub raised_as : (figure : Task → List Task → ℕ) (L V : List Task) → L ≡ V → (out : List ℕ) → All (λ t. get_or out t.job 0 ≡ figure t L) L → All (λ t. get_or out t.job 0 ≡ figure t V) V
-raised_as figure L V e out a = subst (λ (W : List Task). All (λ t. get_or out t.job 0 ≡ figure t W) W) e a
+pub raised_as : (figure : Task → List Task → ℕ) (L V : List Task) → L ≡ V → (out : List ℕ) → AllByRecursion (λ t. get_or out t.job 0 ≡ figure t L) L → AllByRecursion (λ t. get_or out t.job 0 ≡ figure t V) V
+raised_as figure L V e out a = subst (λ (W : List Task). AllByRecursion (λ t. get_or out t.job 0 ≡ figure t W) W) e a
 
 -- how far the stations have been gone through
 pub record Through (o : List Task → Bool) (e : Task → List Task → ℕ) (js : List Job) (ws : List Window) (lows backs : List ℕ) (x : ℕ) : Type 0 where
@@ -68,7 +68,7 @@ through_more o e js ws ls bs ls' bs' x t c a b d f = record {
 }
 
 -- the limits out of the first starts as time runs back
-pub limit_is : (o : List Task → Bool) (e l : Task → List Task → ℕ) → Kernel-lawful o e l → (js : List Job) (ws : List Window) → AllEntered js → length js ≤ most_jobs → Well-formed (length js) ws → (k : ℕ) → k < length ws →
+pub limit_is : (o : List Task → Bool) (e l : Task → List Task → ℕ) → KernelLawful o e l → (js : List Job) (ws : List Window) → AllEntered js → length js ≤ most_jobs → WellFormed (length js) ws → (k : ℕ) → k < length ws →
     among l js ws k ≡ horizon + 1 - (among (λ i U. e (mirror i) (map mirror U)) js ws k + span js k)
 limit_is o e l law js ws entered few f k h =
     let x = (job js k).station in

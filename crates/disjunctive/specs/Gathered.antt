@@ -1,7 +1,7 @@
 -- The tasks of a station.
 use Rattle.std.specs.Prelude.{◌≡◌, ℕ, zero, suc, ◌+◌, ◌<◌, ◌≤◌, List, [], ◌∷◌, ◌++◌, length, take, ◌==◌, ◌≢◌, slice_index, slice_set, refl}
 use Rattle.std.proofs.Common.{sym, ap, subst, ◌∙◌, ⊎_elim, arith, add-one, length-set}
-use Rattle.std.specs.List.{AllByRecursion as All}
+use Rattle.std.specs.List.{AllByRecursion}
 use Rattle.std.proofs.lemmas.List.{length_push, take_more_set}
 use Rattle.std.proofs.ByRecursion.{All-push}
 use Rattle.std.proofs.lemmas.Bool.{cond-true, cond-false, cond_both, cases_eq, eq-eqb, ne_eqb}
@@ -19,7 +19,7 @@ use Rattle.station.specs.Members.{In, here, in_left, in_right}
 use Rattle.station.specs.Pairwise.{pairwise_push}
 use Rattle.disjunctive.specs.Disjoint.{Disjoint}
 use Rattle.disjunctive.specs.Gathering.{gathered, task, tasks_at}
-use Rattle.rule.specs.Windows.{Formed as Well-formed}
+use Rattle.rule.specs.Windows.{Formed as WellFormed}
 
 module _ (js : List Job) (ws : List Window) (x : ℕ) where
   pub gathered-yes : (k : ℕ) → (job js k).station ≡ x → gathered js ws x (suc k) ≡ gathered js ws x k ++ (task js ws k ∷ [])
@@ -39,8 +39,8 @@ module _ (js : List Job) (ws : List Window) (x : ℕ) where
       (cases_eq (job js n).station x)
 
   -- what holds of each job at the station holds of each task
-  pub gathered_all : (P : Task → Type 0) (n : ℕ) → ((k : ℕ) → k < n → (job js k).station ≡ x → P (task js ws k)) → All P (gathered js ws x n)
-  gathered_all P n f = gathered_by (All P) tt n (λ k h e r. All-push P (gathered js ws x k) (task js ws k) r (f k h e))
+  pub gathered_all : (P : Task → Type 0) (n : ℕ) → ((k : ℕ) → k < n → (job js k).station ≡ x → P (task js ws k)) → AllByRecursion P (gathered js ws x n)
+  gathered_all P n f = gathered_by (AllByRecursion P) tt n (λ k h e r. All-push P (gathered js ws x k) (task js ws k) r (f k h e))
 
   -- what holds of any two jobs at the station holds of any two tasks
   pub gathered_pairwise : (R : Task → Task → Type 0) (n : ℕ) → ((j k : ℕ) → j < k → k < n → (job js j).station ≡ x → (job js k).station ≡ x → R (task js ws j) (task js ws k)) → Pairwise R (gathered js ws x n)
@@ -93,7 +93,7 @@ pub gathering_as : (js : List Job) (ws : List Window) (x : ℕ) (ts us : List Ta
 gathering_as js ws x ts us k m n g e f = rw (e, f) g
 
 -- tasks of windows that are well formed
-module _ (js : List Job) (ws : List Window) (entered : AllEntered js) (few : length js ≤ most_jobs) (f : Well-formed (length js) ws) (x : ℕ) where
+module _ (js : List Job) (ws : List Window) (entered : AllEntered js) (few : length js ≤ most_jobs) (f : WellFormed (length js) ws) (x : ℕ) where
   pub tasks_formed : Formed (tasks_at js ws x)
   tasks_formed = record {
     few = omega (arith, gathered-short js ws x (length ws), f.count);
@@ -103,18 +103,18 @@ module _ (js : List Job) (ws : List Window) (entered : AllEntered js) (few : len
     distinct = gathered_pairwise js ws x (λ s t. s.job ≢ t.job) (length ws) (λ j k l h d e z. omega arith);
   }
 
-  pub tasks_numbered : (n : ℕ) → n ≡ length ws → All (λ t. t.job < n) (tasks_at js ws x)
+  pub tasks_numbered : (n : ℕ) → n ≡ length ws → AllByRecursion (λ t. t.job < n) (tasks_at js ws x)
   tasks_numbered n z = gathered_all js ws x (λ t. t.job < n) (length ws) (λ k h e. omega arith)
 
   -- a job that is not at the station has no task there
-  pub tasks_others : (k : ℕ) → ((job js k).station ≢ x) → All (λ t. t.job ≢ k) (tasks_at js ws x)
+  pub tasks_others : (k : ℕ) → ((job js k).station ≢ x) → AllByRecursion (λ t. t.job ≢ k) (tasks_at js ws x)
   tasks_others k n = gathered_all js ws x (λ t. t.job ≢ k) (length ws) (λ j h e z. n (subst (λ (i : ℕ). (job js i).station ≡ x) z e))
 
   pub task_in : (k : ℕ) → k < length ws → (job js k).station ≡ x → In (task js ws k) (tasks_at js ws x)
   task_in k h e = gathered_in js ws x (length ws) k h e
 
 -- the starts of a timetable that the rules admit
-module _ (js : List Job) (ws : List Window) (f : Well-formed (length js) ws) (t : List ℕ) (p : Disjoint js t) (n : Inside t ws) (x : ℕ) where
+module _ (js : List Job) (ws : List Window) (f : WellFormed (length js) ws) (t : List ℕ) (p : Disjoint js t) (n : Inside t ws) (x : ℕ) where
   pub tasks_placed : Placed (λ τ. slice_index t τ.job) (tasks_at js ws x)
   tasks_placed = record {
     apart = gathered_pairwise js ws x (Apart (λ τ. slice_index t τ.job)) (length ws) (λ j k l h d e. p j k (omega (arith, f.count)) (omega (arith, f.count)) (λ z. omega arith) (d ∙ sym e));

@@ -1,7 +1,7 @@
 -- A rule that runs a lawful kernel over the stations is lawful.
 use Rattle.std.specs.Prelude.{◌≡◌, ℕ, zero, suc, ◌+◌, ◌<◌, ◌≤◌, Bool, true, false, ◌⊎◌, List, length, slice_index, slice_index_or, refl}
 use Rattle.std.proofs.Common.{sym, ap, subst, ◌∙◌, inl, inr, ⊎_elim, arith}
-use Rattle.std.specs.List.{AllByRecursion as All}
+use Rattle.std.specs.List.{AllByRecursion}
 use Rattle.std.proofs.lemmas.Bool.{cases_Bool, cond-true, cond-false, or_from, or_parts, cases_eq}
 use Rattle.sheet.specs.declared.records.Window.{Window}
 use Rattle.sheet.specs.Entries.{Entries, job}
@@ -24,8 +24,8 @@ use Rattle.disjunctive.specs.Disjoint.{Disjoint}
 use Rattle.disjunctive.specs.Gathering.{task, tasks_at}
 use Rattle.disjunctive.specs.StationCuts.{among, any_below, station_cut, stations}
 use Rattle.disjunctive.specs.Gathered.{gathered_all, gathered_in, task_in, tasks_formed, tasks_placed}
-use Rattle.rule.specs.Windows.{Formed as Well-formed}
-use Rattle.station.specs.Kernels.{Lawful as Kernel-lawful}
+use Rattle.rule.specs.Windows.{Formed as WellFormed}
+use Rattle.station.specs.Kernels.{Lawful as KernelLawful}
 
 pub below_none : (f : ℕ → Bool) (n : ℕ) → ((x : ℕ) → x < n → f x ≡ false) → any_below f n ≡ false
 below_none f zero h = refl
@@ -40,7 +40,7 @@ below_at f (suc n) x e h =
     (λ (y : x ≡ n → ⊥). below_at f n x p.1 (omega arith))
     (cases_eq x n)
 
-module _ (o : List Task → Bool) (e l : Task → List Task → ℕ) (law : Kernel-lawful o e l) (en : Entries) (s : Sound en) (ws : List Window) (f : Well-formed (length en.jobs) ws) where
+module _ (o : List Task → Bool) (e l : Task → List Task → ℕ) (law : KernelLawful o e l) (en : Entries) (s : Sound en) (ws : List Window) (f : WellFormed (length en.jobs) ws) where
   abbrev load : Bool
   load = any_below (λ x. o (tasks_at en.jobs ws x)) stations
 
@@ -78,7 +78,7 @@ module _ (o : List Task → Bool) (e l : Task → List Task → ℕ) (law : Kern
       let x = (job en.jobs i).station in
       let U = tasks_at en.jobs ws x in
       let open-all = (together-live _ _ (length ws) vs d.1).0 in
-      let still : All (λ τ. e τ (tasks_at en.jobs ws x) ≤ τ.lo) U = gathered_all en.jobs ws x _ (length ws) (λ k h q.
+      let still : AllByRecursion (λ τ. e τ (tasks_at en.jobs ws x) ≤ τ.lo) U = gathered_all en.jobs ws x _ (length ws) (λ k h q.
       let z : among e en.jobs ws k ≡ e (task en.jobs ws k) U = ap (λ (y : ℕ). e (task en.jobs ws k) (tasks_at en.jobs ws y)) q in
       omega (arith, open_at _ _ (length ws) k open-all h, limit_own k, single k h)) in
       let apart : Pairwise (Apart (λ τ. τ.lo)) U = law.checks U (formed-at x) (gathered_all en.jobs ws x _ (length ws) (λ k h q. omega (arith, single k h))) (below_at (λ x. o (tasks_at en.jobs ws x)) stations x d.0 (omega (arith, (s.entered i hi).0))) still in
@@ -94,7 +94,7 @@ module _ (o : List Task → Bool) (e l : Task → List Task → ℕ) (law : Kern
       (λ (q : Apart (λ τ. τ.lo) (task en.jobs ws j) (task en.jobs ws i)). told (apart-turned (λ τ. τ.lo) (task en.jobs ws j) (task en.jobs ws i) q))
       (pairwise_in (Apart (λ τ. τ.lo)) apart (task en.jobs ws i) (task en.jobs ws j) mi mj ne)
 
-pub station_lawful : (o : List Task → Bool) (e l : Task → List Task → ℕ) → Kernel-lawful o e l → (en : Entries) → Sound en → Lawful (length en.jobs) (Disjoint en.jobs) (station_cut o e l en.jobs)
+pub station_lawful : (o : List Task → Bool) (e l : Task → List Task → ℕ) → KernelLawful o e l → (en : Entries) → Sound en → Lawful (length en.jobs) (Disjoint en.jobs) (station_cut o e l en.jobs)
 station_lawful o e l law en s = record {
   contracting = λ ws vs f a. cut_contracting o e l law en s ws f vs a;
   preserving = λ ws t f p n. cut_preserving o e l law en s ws f t p n;

@@ -3,7 +3,7 @@ use Rattle.std.specs.Prelude.{◌≡◌, ℕ, ◌+◌, ◌<◌, ◌≤◌, ◌�
 use Rattle.sheet.specs.Entries.{Entries, job, link}
 use Rattle.sheet.specs.Sound.{Sound}
 use Rattle.slip.specs.Texts.{SlipOf}
-use Rattle.slip.specs.Faulty.{Faulty as Fault-of}
+use Rattle.slip.specs.Faulty.{Faulty as FaultOf}
 use Rattle.search.specs.declared.decision.Decision.{Decision}
 use Rattle.search.specs.Looks.{State, opened, found, impossible}
 use Rattle.report.specs.declared.reported.Unplanned.TheVariants.{Faulty, Refused}
@@ -35,6 +35,6 @@ pub record Says (e : Entries) (g m : ℕ) (x : State) : Type 0 where
 
 -- what planning the bytes of a slip by g looks tells, where there is room for so many starts
 abbrev pub InTheHallsWords : List ℕ → ℕ → ℕ → Told → Type 0
-InTheHallsWords bytes g room (unplanned (Faulty f)) = Fault-of bytes f
+InTheHallsWords bytes g room (unplanned (Faulty f)) = FaultOf bytes f
 InTheHallsWords bytes g room (unplanned (Refused r)) = (e : Entries) × SlipOf bytes e × RefusedFor e g room r
 InTheHallsWords bytes g room (planned e x m) = SlipOf bytes e × Sound e × (length e.jobs ≤ room) × Says e g m x

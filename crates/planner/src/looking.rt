@@ -3,7 +3,7 @@ ghost use Rattle.std.specs.Prelude.{◌≡◌, true, length};
 ghost use Rattle.rule.specs.Windows.{formed};
 ghost use Rattle.rule.specs.Cuts.{live, verdict_of, left};
 ghost use Rattle.search.specs.declared.outcome.Outcome.TheVariants.{Open};
-ghost use Rattle.search.specs.Choosing.{narrowest as narrowest-of};
+ghost use Rattle.search.specs.Choosing.{narrowest as narrowest_of};
 ghost use Rattle.search.specs.Looks.{backtracked, branched};
 ghost use Rattle.planner.specs.States.{entries_of, path_in, state_of, windows_in, narrowed_in, look_in};
 
@@ -55,7 +55,7 @@ impl<P: Rule> Search<P> {
     fn branch(&mut self, windows: &[Window])
         requires open { self.old.outcome ≡ Open }
         requires narrowed { narrowed_in P.Rule.cut self.old ≡ live windows.now }
-        ensures state { state_of self.new ≡ branched (narrowest-of windows.now) windows.now (path_in self.old) }
+        ensures state { state_of self.new ≡ branched (narrowest_of windows.now) windows.now (path_in self.old) }
         ensures sheet { self.new.sheet ≡ self.old.sheet }
         ensures pile { self.new.pile ≡ self.old.pile }
     {

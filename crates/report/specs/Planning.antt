@@ -8,7 +8,7 @@ use Rattle.sheet.specs.Sound.{Sound}
 use Rattle.slip.specs.declared.fault.Fault.{Fault}
 use Rattle.slip.specs.Reading.{read}
 use Rattle.slip.specs.Texts.{SlipOf}
-use Rattle.slip.specs.Faulty.{Faulty as Fault-of}
+use Rattle.slip.specs.Faulty.{Faulty as FaultOf}
 use Rattle.rule.specs.Cuts.{Cut}
 use Rattle.search.specs.Looks.{State, opened, one_look, after_looks, looks_made}
 use Rattle.search.specs.Promise.{Promise}
@@ -56,6 +56,6 @@ OwesSheet admits e g room (planned d x m) = (d ≡ e) × Sound e × (length e.jo
 
 -- and planning a slip
 abbrev pub Owes : (Entries → List ℕ → Type 0) → List ℕ → ℕ → ℕ → Told → Type 0
-Owes admits bytes g room (unplanned (Faulty f)) = Fault-of bytes f
+Owes admits bytes g room (unplanned (Faulty f)) = FaultOf bytes f
 Owes admits bytes g room (unplanned (Refused r)) = (e : Entries) × SlipOf bytes e × RefusedFor e g room r
 Owes admits bytes g room (planned e x m) = SlipOf bytes e × Sound e × (length e.jobs ≤ room) × Promise (admits e) e g m x

@@ -1,7 +1,7 @@
 // The choice of the job whose window is split.
 ghost use Rattle.std.specs.Prelude.{◌≡◌, true};
 ghost use Rattle.rule.specs.Windows.{all_fine};
-ghost use Rattle.search.specs.Choosing.{narrowest as narrowest-of, Chooses};
+ghost use Rattle.search.specs.Choosing.{narrowest as narrowest_of, Chooses};
 
 use sheet::limits::LAST_MINUTE;
 use sheet::records::Window;
@@ -9,7 +9,7 @@ use sheet::records::Window;
 /// The job with the narrowest window above a single start, the lowest number among equals.
 pub fn narrowest(windows: &[Window]) -> Option<usize>
     requires { all_fine windows.now ≡ true }
-    ensures choice { result ≡ narrowest-of windows.now }
+    ensures choice { result ≡ narrowest_of windows.now }
     ensures chooses { Chooses windows.now result }
 {
     let mut best = None;

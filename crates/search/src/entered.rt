@@ -1,7 +1,7 @@
 // The windows that a sheet's jobs were entered with, and the starts that single windows give.
 ghost use Rattle.std.specs.Prelude.{◌≡◌, ◌≤◌, length, take};
 ghost use Rattle.sheet.specs.Sheets.{entries};
-ghost use Rattle.rule.specs.Windows.{starts as starts-of};
+ghost use Rattle.rule.specs.Windows.{starts as starts_of};
 ghost use Rattle.search.specs.Entered.{entered_window, entered_windows};
 ghost use Rattle.search.specs.Counting.{Counted};
 
@@ -35,7 +35,7 @@ pub fn enter_windows(sheet: &Sheet, windows: &mut [Window])
 /// Notes the first start of each window.
 pub fn note_starts(windows: &[Window], starts: &mut [u32])
     requires { length windows.now ≤ length starts.old }
-    ensures { take (length windows.now) starts.new ≡ starts-of windows.now }
+    ensures { take (length windows.now) starts.new ≡ starts_of windows.now }
 {
     for (i, w) in windows.iter().enumerate() {
         starts[i] = w.lo;

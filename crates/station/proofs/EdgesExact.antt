@@ -1,6 +1,6 @@
 -- All passes of edge finding together give what the definition over all sets gives.
 use Rattle.std.proofs.Common.{◌≡◌, ℕ, zero, suc, ◌+◌, ◌<◌, ◌≤◌, max, Bool, true, false, cond, not, eqb, ltb, List, [], ◌∷◌, length, drop, filter, sym, refl, ap, ◌∙◌, subst, ⊎_elim, arith, drop-cons}
-use Rattle.std.specs.List.{AllByRecursion as All}
+use Rattle.std.specs.List.{AllByRecursion}
 use Rattle.std.proofs.ByRecursion.{All-weaker}
 use Rattle.std.proofs.lemmas.Bool.{both_ways, cases_Bool, cond-true, cond-false, cond_both, or_cases, cases_lt, cases_eq, and_from, and_parts, and_left, and_right, leb-false, lt-leb, ltb-true, ltb-false, lt-ltb, le-ltb, eqb-true, not-false}
 use Rattle.station.specs.declared.task.Task.{Task}
@@ -17,7 +17,7 @@ use Rattle.station.proofs.Shuffles.{Same}
 use Rattle.station.specs.Works.{total-drop, work_behind, work-kept, work_of-kept, work-some, work_sublist, work_with}
 
 module _ (L U : List Task) (same : Same L U) (formed : Formed L) where
-  spans : All (λ t. 1 ≤ t.span) L
+  spans : AllByRecursion (λ t. 1 ≤ t.span) L
   spans = All-weaker Fit (λ t. 1 ≤ t.span) (λ t f. f.some) L formed.fit
 
   -- an interval's work is the same in both orders
@@ -75,11 +75,11 @@ module _ (L U : List Task) (same : Same L U) (formed : Formed L) where
           (or_cases _ _ e)
 
   -- an interval that meets the condition, and one within it, bound i
-  justified : (i : Task) → All (λ t. t.job ≡ i.job → t.end ≡ i.end) L → (c a a' b y : ℕ) → c ≤ i.lo → c ≤ a → a ≤ a' → b < i.end → (t : Task) → In t U → a' ≤ t.lo → t.end ≤ b → b < c + (i.span + work_of (inner a b) U) → y ≤ a' + work_of (inner a' b) U → y ≤ edges_earliest i L
+  justified : (i : Task) → AllByRecursion (λ t. t.job ≡ i.job → t.end ≡ i.end) L → (c a a' b y : ℕ) → c ≤ i.lo → c ≤ a → a ≤ a' → b < i.end → (t : Task) → In t U → a' ≤ t.lo → t.end ≤ b → b < c + (i.span + work_of (inner a b) U) → y ≤ a' + work_of (inner a' b) U → y ≤ edges_earliest i L
   justified i one c a a' b y ci ca aa bi t tU ta tb last yh =
       let M = others i L in
       let other : Task → Bool = λ t. not (eqb t.job i.job) in
-      let free : (a : ℕ) → All (λ t. inner a b t ≡ true → other t ≡ true) L = λ a. all_from _ L (λ t m e.
+      let free : (a : ℕ) → AllByRecursion (λ t. inner a b t ≡ true → other t ≡ true) L = λ a. all_from _ L (λ t m e.
       ⊎_elim
       (λ (x : other t ≡ true). x)
       (λ (x : other t ≡ false). absurd (omega (arith, all_in (λ t. t.job ≡ i.job → t.end ≡ i.end) m one (eqb-true _ _ (not-false _ x)), (inside_fact (λ t. t.lo) a b t e).1)))
@@ -92,7 +92,7 @@ module _ (L U : List Task) (same : Same L U) (formed : Formed L) where
       let mS : In t S = in_kept (inner a b) mM it in
       let nT : nonempty T ≡ true = in_nonempty (in_kept (inner a' b) mS (inside-from (λ t. t.lo) a' b t ta tb)) in
       let wS : work S ≡ work_of (inner a b) U = work-kept (inner a b) M ∙ work_of-kept (inner a b) other L (free a) ∙ either a b in
-      let down : All (λ t. inner a' b t ≡ true → inner a b t ≡ true) M = all_from _ M (λ t m e. let f = inside_fact (λ t. t.lo) a' b t e in inside-from (λ t. t.lo) a b t (omega (arith, f.0)) f.1) in
+      let down : AllByRecursion (λ t. inner a' b t ≡ true → inner a b t ≡ true) M = all_from _ M (λ t m e. let f = inside_fact (λ t. t.lo) a' b t e in inside-from (λ t. t.lo) a b t (omega (arith, f.0)) f.1) in
       let wT : work T ≡ work_of (inner a' b) U = work-kept (inner a' b) S ∙ work_of-kept (inner a' b) (inner a b) M down ∙ work_of-kept (inner a' b) other L (free a') ∙ either a' b in
       let eS : c ≤ est (i ∷ S) = least_ge (λ t. t.lo) (i ∷ S) c refl (ci, kept_each (λ t. t.lo) a b M c ca) in
       let lS : lct S ≤ b = kept-lct (λ t. t.lo) a b M in
@@ -160,14 +160,14 @@ module _ (L U : List Task) (same : Same L U) (formed : Formed L) (rising : Risin
   inL = same.from (at U q) (in_at U q inq)
 
   -- the task of a job is one
-  one : All (λ t. t.job ≡ (at U q).job → t.end ≡ (at U q).end) L
+  one : AllByRecursion (λ t. t.job ≡ (at U q).job → t.end ≡ (at U q).end) L
   one = all_from _ L (λ t m e. let p = pairwise_one L formed.distinct t (at U q) m inL e in ap (λ (s : Task). s.end) p)
 
   later-sound : (b : ℕ) → b < (at U q).end → b < (at U q).lo + ((at U q).span + work_of (ends_by b) (drop (suc q) U)) → completion_by b (drop (suc q) U) ≤ edges_earliest (at U q) L
   later-sound b bi h =
       let i = at U q in
       let D : List Task = drop (suc q) U in
-      let up : All (λ t. i.lo ≤ t.lo) D = pairwise_behind (λ s t. s.lo ≤ t.lo) q U inq rising in
+      let up : AllByRecursion (λ t. i.lo ≤ t.lo) D = pairwise_behind (λ s t. s.lo ≤ t.lo) q U inq rising in
       ⊎_elim
       (λ (z : completion_by b D ≡ 0). omega arith)
       (λ (r : Reached b D).
@@ -200,8 +200,8 @@ module _ (L U : List Task) (same : Same L U) (formed : Formed L) (rising : Risin
       (cases_lt i.lo t.lo))
       (completion_from b U rising)
     where
-      from_place : (j : ℕ) → j < length U → All (λ t. (at U j).lo ≤ t.lo) (drop j U)
-      from_place j h = subst (λ (V : List Task). All (λ t. (at U j).lo ≤ t.lo) V) (sym (drop-cons U j no_task h)) (omega arith, pairwise_behind (λ s t. s.lo ≤ t.lo) j U h rising)
+      from_place : (j : ℕ) → j < length U → AllByRecursion (λ t. (at U j).lo ≤ t.lo) (drop j U)
+      from_place j h = subst (λ (V : List Task). AllByRecursion (λ t. (at U j).lo ≤ t.lo) V) (sym (drop-cons U j no_task h)) (omega arith, pairwise_behind (λ s t. s.lo ≤ t.lo) j U h rising)
 
   passes-sound : (n : ℕ) → raised_by_all U q n ≤ edges_earliest (at U q) L
   passes-sound n = all_le U q n (edges_earliest (at U q) L) (at_least_ge _ _ _ (sublists (others (at U q) L))) (λ e x l k. both_le (at U e).end U q x _ k (later-sound (at U e).end) (earlier_sound (at U e).end))

@@ -1,6 +1,6 @@
 -- What the passes' figures say of intervals.
 use Rattle.std.proofs.Common.{◌≡◌, ℕ, zero, suc, ◌+◌, ◌<◌, ◌≤◌, max, Bool, true, false, cond, ◌⊎◌, List, [], ◌∷◌, length, drop, sym, refl, ◌∙◌, subst, inl, inr, ⊎_elim, arith}
-use Rattle.std.specs.List.{AllByRecursion as All}
+use Rattle.std.specs.List.{AllByRecursion}
 use Rattle.std.proofs.lemmas.Bool.{cases_Bool, cond-true, cond-false, cond_both, cases_lt, cases_eq, and_from, and_parts, leb-true, le-leb, lt-leb}
 use Rattle.station.specs.declared.task.Task.{Task}
 use Rattle.station.specs.EdgesPasses.{completion_before, completion_by, ends_by, work_of}
@@ -20,7 +20,7 @@ pub inner_by : (a b : ℕ) (L : List Task) → work_of (inner a b) L ≤ work_of
 inner_by a b L = work_mono (inner a b) (ends_by b) L (all_from _ L (λ t m e. (and_parts _ _ e).1))
 
 -- where every task starts at a or later, the interval from a has all that end by b
-pub by_inner : (a b : ℕ) (L : List Task) → All (λ t. a ≤ t.lo) L → work_of (ends_by b) L ≤ work_of (inner a b) L
+pub by_inner : (a b : ℕ) (L : List Task) → AllByRecursion (λ t. a ≤ t.lo) L → work_of (ends_by b) L ≤ work_of (inner a b) L
 by_inner a b L h = work_mono (ends_by b) (inner a b) L (all_from _ L (λ t m e. and_from _ _ (le-leb _ _ (all_in (λ t. a ≤ t.lo) m h)) e))
 
 module _ (b : ℕ) where

@@ -1,6 +1,6 @@
 -- Tasks that end by b and whose figure, the start or the earliest completion, is a or more.
 use Rattle.std.proofs.Common.{◌≡◌, ℕ, ◌≤◌, Bool, true, ◌&&◌, leb, List, filter, arith}
-use Rattle.std.specs.List.{AllByRecursion as All}
+use Rattle.std.specs.List.{AllByRecursion}
 use Rattle.std.proofs.ByRecursion.{kept_by_passes}
 use Rattle.std.proofs.lemmas.Bool.{and_from, and_parts, leb-true, le-leb}
 use Rattle.station.specs.declared.task.Task.{Task}
@@ -26,12 +26,12 @@ module _ (f : Task → ℕ) (a b : ℕ) where
     pub kept-least : nonempty (filter (inside f a b) M) ≡ true → a ≤ least f (filter (inside f a b) M)
     kept-least e = least_ge f _ a e (all_from _ _ (λ t m. (passes t m).0))
 
-    pub kept_each : (c : ℕ) → c ≤ a → All (λ t. c ≤ f t) (filter (inside f a b) M)
+    pub kept_each : (c : ℕ) → c ≤ a → AllByRecursion (λ t. c ≤ f t) (filter (inside f a b) M)
     kept_each c h = all_from _ _ (λ t m. omega (arith, (passes t m).0))
 
     pub kept-lct : lct (filter (inside f a b) M) ≤ b
     kept-lct = greatest_le (λ t. t.end) _ b (all_from _ _ (λ t m. (passes t m).1))
 
   -- a set within the interval
-  pub set-inside : (S : List Task) → nonempty S ≡ true → a ≤ least f S → lct S ≤ b → All (λ t. inside f a b t ≡ true) S
+  pub set-inside : (S : List Task) → nonempty S ≡ true → a ≤ least f S → lct S ≤ b → AllByRecursion (λ t. inside f a b t ≡ true) S
   set-inside S e h k = all_from _ S (λ t m. inside-from t (omega (arith, least_le f m)) (omega (arith, greatest_ge (λ t. t.end) m)))

@@ -1,6 +1,6 @@
 -- All passes of not_first together give what the definition over all sets gives.
 use Rattle.std.proofs.Common.{◌≡◌, ℕ, zero, suc, ◌+◌, ◌-◌, ◌<◌, ◌≤◌, min, max, Bool, true, false, cond, ◌&&◌, ltb, ◌⊎◌, List, [], ◌∷◌, length, drop, filter, sym, refl, ap, ◌∙◌, subst, inl, inr, ⊎_elim, arith}
-use Rattle.std.specs.List.{AllByRecursion as All}
+use Rattle.std.specs.List.{AllByRecursion}
 use Rattle.std.proofs.ByRecursion.{All-weaker}
 use Rattle.std.proofs.lemmas.Bool.{cases_Bool, cond-true, cond-false, cond_both, cases_lt, cases_eq, and_from, and_parts, and_left, leb-true, le-leb, lt-leb, ltb-true, lt-ltb}
 use Rattle.station.specs.declared.task.Task.{Task}
@@ -29,7 +29,7 @@ late-from_e : (e b : ℕ) (L : List Task) → work_of (late e b) L ≤ work_of (
 late-from_e e b L = work_mono (late e b) (complete_from e) L (all_from _ L (λ t m h. (and_parts _ _ h).0))
 
 -- where every task ends by b, all that are complete at e or later are meant
-from_e_late : (e b : ℕ) (L : List Task) → All (λ t. t.end ≤ b) L → work_of (complete_from e) L ≤ work_of (late e b) L
+from_e_late : (e b : ℕ) (L : List Task) → AllByRecursion (λ t. t.end ≤ b) L → work_of (complete_from e) L ≤ work_of (late e b) L
 from_e_late e b L a = work_mono (complete_from e) (late e b) L (all_from _ L (λ t m h. and_from _ _ h (le-leb _ _ (all_in (λ t. t.end ≤ b) m a))))
 
 module _ (e : ℕ) where
@@ -206,7 +206,7 @@ module _ (L U : List Task) (same : Same L U) (formed : Formed L) (formed' : Form
       let e = ect (at U k) in
       let b = lct S in
       let sL : Sublist S L = sublist_trans (sublist_kept _ L) pS in
-      let aS : All (λ t. late e b t ≡ true) S = set-inside ect e b S nS (omega arith) (omega arith) in
+      let aS : AllByRecursion (λ t. late e b t ≡ true) S = set-inside ect e b S nS (omega arith) (omega arith) in
       let wS : work S ≤ work_of (late e b) L = work_sublist (late e b) sL aS in
       let some : 0 < work S = work-some S nS (all_sublist _ sL (All-weaker Fit (λ t. 1 ≤ t.span) (λ t f. f.some) L formed.fit)) in
       let y : work_of (late e b) L ≡ work_of (late e b) U = either (late e b) in

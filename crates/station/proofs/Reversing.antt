@@ -1,7 +1,7 @@
 -- Tasks and their starts as time runs back.
 use Rattle.std.proofs.Common.{◌≡◌, ℕ, ◌+◌, ◌-◌, ◌<◌, ◌≤◌, Bool, List, [], ◌∷◌, map, inl, inr, ⊎_elim, arith}
 use lib.ListN.{length-map}
-use Rattle.std.specs.List.{AllByRecursion as All}
+use Rattle.std.specs.List.{AllByRecursion}
 use Rattle.std.proofs.ByRecursion.{All-map}
 use Rattle.station.specs.declared.task.Task.{Task}
 use Rattle.station.specs.Kernels.{Apart, Lawful, Placed}
@@ -10,7 +10,7 @@ use Rattle.station.specs.Mirror.{mirror}
 use Rattle.station.specs.Tasks.{Fit, Formed, Pairwise}
 use Rattle.station.specs.Members.{In, all_from, all_in, here, in_map, there}
 
-map_all : (P : Task → Type 0) (U : List Task) → ((t : Task) → In t U → P (mirror t)) → All P (map mirror U)
+map_all : (P : Task → Type 0) (U : List Task) → ((t : Task) → In t U → P (mirror t)) → AllByRecursion P (map mirror U)
 map_all P U f = All-map P mirror U (all_from _ U f)
 
 pairwise_map : (R Q : Task → Task → Type 0) (U : List Task) → ((s t : Task) → In s U → In t U → R s t → Q (mirror s) (mirror t)) → Pairwise R U → Pairwise Q (map mirror U)

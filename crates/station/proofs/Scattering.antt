@@ -1,7 +1,7 @@
 -- Values of tasks, written out by job number.
 use Rattle.std.proofs.Common.{◌≡◌, ℕ, ◌+◌, ◌<◌, List, length, get_or, set, sym, refl, ◌∙◌, subst, ⊎_elim, arith, get_or-set_other, get_or-set_same}
 use Rattle.std.specs.List.Sorted.{IsPermutation}
-use Rattle.std.specs.List.{AllByRecursion as All}
+use Rattle.std.specs.List.{AllByRecursion}
 use Rattle.std.proofs.ByRecursion.{All-from_get_or, All-get_or, all_shuffled}
 use Rattle.std.proofs.lemmas.Bool.{cases_eq}
 use Rattle.std.proofs.lemmas.List.Sorted.{IsPermutation-sym}
@@ -12,7 +12,7 @@ use Rattle.station.specs.Pairwise.{pairwise_at}
 -- those of the first q tasks are written out, and nothing else is
 pub record Scattered (U : List Task) (vs xs ys : List ℕ) (q : ℕ) : Type 0 where
   pub done : (k : ℕ) → k < q → get_or ys (at U k).job 0 ≡ get_or vs k 0
-  pub kept : (j : ℕ) → All (λ t. t.job ≡ j → ⊥) U → get_or ys j 0 ≡ get_or xs j 0
+  pub kept : (j : ℕ) → AllByRecursion (λ t. t.job ≡ j → ⊥) U → get_or ys j 0 ≡ get_or xs j 0
 
 pub scattered_none : (U : List Task) (vs xs : List ℕ) → Scattered U vs xs xs 0
 scattered_none U vs xs = record { done = λ k h. absurd (omega arith); kept = λ j f. refl }
@@ -28,5 +28,5 @@ scattered_more U vs xs ys q f b h s = record {
 }
 
 -- what holds of the tasks in one order holds of them in the other
-pub by_job : (L U : List Task) → IsPermutation L U → (ys : List ℕ) (v : Task → ℕ) → ((k : ℕ) → k < length U → get_or ys (at U k).job 0 ≡ v (at U k)) → All (λ t. get_or ys t.job 0 ≡ v t) L
+pub by_job : (L U : List Task) → IsPermutation L U → (ys : List ℕ) (v : Task → ℕ) → ((k : ℕ) → k < length U → get_or ys (at U k).job 0 ≡ v (at U k)) → AllByRecursion (λ t. get_or ys t.job 0 ≡ v t) L
 by_job L U s ys v f = all_shuffled _ U L (IsPermutation-sym L U s) (All-from_get_or _ U no_task f)

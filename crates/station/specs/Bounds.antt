@@ -1,7 +1,7 @@
 -- Bounds over many: each value is kept to, and the bound is the least or the greatest that keeps to them all.
 use Rattle.std.specs.Prelude.{◌≡◌, ℕ, ◌<◌, ◌≤◌, max, Bool, true, false, cond, List, [], ◌∷◌, ◌++◌, refl}
 use Rattle.std.proofs.Common.{sym, ap, subst, ◌∙◌, ⊎_elim, arith}
-use Rattle.std.specs.List.{AllByRecursion as All}
+use Rattle.std.specs.List.{AllByRecursion}
 use Rattle.std.proofs.lemmas.Bool.{both_ways, cases_Bool, cond-true, cond-false, cond_both, or_left, or_right, or_from, cases_lt}
 use Rattle.station.specs.declared.task.Task.{Task}
 use Rattle.station.specs.Sets.{any, at_least, at_most, est, greatest, lct, least, nonempty, sublists}
@@ -18,7 +18,7 @@ module _ {X : Type 0} (f : X → Bool) (g : X → ℕ) (x : ℕ) where
       let p : g a ≤ at_least f g x M = at_least_by h t in
       cond_both (f b) _ _ (λ y. g a ≤ y) (λ e. omega arith) (λ e. p)
 
-  pub at_least_le : (L : List X) (y : ℕ) → x ≤ y → All (λ a. f a ≡ true → g a ≤ y) L → at_least f g x L ≤ y
+  pub at_least_le : (L : List X) (y : ℕ) → x ≤ y → AllByRecursion (λ a. f a ≡ true → g a ≤ y) L → at_least f g x L ≤ y
   at_least_le [] y h k = h
   at_least_le (a ∷ L) y h k =
       let p : at_least f g x L ≤ y = at_least_le L y h k.1 in
@@ -34,7 +34,7 @@ module _ {X : Type 0} (f : X → Bool) (g : X → ℕ) (x : ℕ) where
       let p : at_most f g x M ≤ g a = at_most_by h t in
       cond_both (f b) _ _ (λ y. y ≤ g a) (λ e. omega arith) (λ e. p)
 
-  pub at_most_ge : (L : List X) (y : ℕ) → y ≤ x → All (λ a. f a ≡ true → y ≤ g a) L → y ≤ at_most f g x L
+  pub at_most_ge : (L : List X) (y : ℕ) → y ≤ x → AllByRecursion (λ a. f a ≡ true → y ≤ g a) L → y ≤ at_most f g x L
   at_most_ge [] y h k = h
   at_most_ge (a ∷ L) y h k =
       let p : y ≤ at_most f g x L = at_most_ge L y h k.1 in
@@ -76,7 +76,7 @@ pub any_in : {X : Type 0} (f : X → Bool) {a : X} {L : List X} → In a L → f
 any_in f here e = or_left _ _ e
 any_in f (there h) e = or_right _ _ (any_in f h e)
 
-pub any_none : {X : Type 0} (f : X → Bool) (L : List X) → All (λ a. f a ≡ false) L → any f L ≡ false
+pub any_none : {X : Type 0} (f : X → Bool) (L : List X) → AllByRecursion (λ a. f a ≡ false) L → any f L ≡ false
 any_none f [] h = refl
 any_none f (a ∷ L) h = or_from _ _ h.0 (any_none f L h.1)
 
@@ -95,7 +95,7 @@ module _ (f : Task → ℕ) where
   least_le {t} (there {x = x} {L = r ∷ S} h) = let p : least f (r ∷ S) ≤ f t = least_le h in omega arith
   least_le {t} (there {x = x} {L = []} h) = elim h [ ]
 
-  pub least_ge : (S : List Task) (a : ℕ) → nonempty S ≡ true → All (λ t. a ≤ f t) S → a ≤ least f S
+  pub least_ge : (S : List Task) (a : ℕ) → nonempty S ≡ true → AllByRecursion (λ t. a ≤ f t) S → a ≤ least f S
   least_ge [] a e h = absurd (both_ways false refl e)
   least_ge (t ∷ []) a e h = h.0
   least_ge (t ∷ s ∷ S) a e h = let p : a ≤ least f (s ∷ S) = least_ge (s ∷ S) a refl h.1 in let q : a ≤ f t = h.0 in omega arith
@@ -115,7 +115,7 @@ module _ (f : Task → ℕ) where
   greatest_ge here = omega arith
   greatest_ge {t} (there {x = x} {L = L} h) = let p : f t ≤ greatest f L = greatest_ge h in omega arith
 
-  pub greatest_le : (S : List Task) (b : ℕ) → All (λ t. f t ≤ b) S → greatest f S ≤ b
+  pub greatest_le : (S : List Task) (b : ℕ) → AllByRecursion (λ t. f t ≤ b) S → greatest f S ≤ b
   greatest_le [] b h = omega arith
   greatest_le (t ∷ S) b h = let p : greatest f S ≤ b = greatest_le S b h.1 in let q : f t ≤ b = h.0 in omega arith
 

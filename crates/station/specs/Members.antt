@@ -1,7 +1,7 @@
 -- Members and sublists of a list, and what is said of all of them.
 use Rattle.std.specs.Prelude.{◌≡◌, ℕ, zero, suc, ◌<◌, ◌≤◌, Bool, true, List, [], ◌∷◌, ◌++◌, map, length, drop, filter, refl}
 use Rattle.std.proofs.Common.{sym, subst, arith}
-use Rattle.std.specs.List.{AllByRecursion as All}
+use Rattle.std.specs.List.{AllByRecursion}
 use Rattle.std.proofs.ByRecursion.{All-append, All-map, All-get_or}
 use Rattle.std.proofs.lemmas.Bool.{cond-true, cond_both}
 use Rattle.station.specs.declared.task.Task.{Task}
@@ -26,15 +26,15 @@ module _ {X : Type 0} where
   in_right [] h = h
   in_right (x ∷ L) h = there (in_right L h)
 
-  pub all_in : (P : X → Type 0) {a : X} {L : List X} → In a L → All P L → P a
+  pub all_in : (P : X → Type 0) {a : X} {L : List X} → In a L → AllByRecursion P L → P a
   all_in P here p = p.0
   all_in P (there h) p = all_in P h p.1
 
-  pub all_from : (P : X → Type 0) (L : List X) → ((a : X) → In a L → P a) → All P L
+  pub all_from : (P : X → Type 0) (L : List X) → ((a : X) → In a L → P a) → AllByRecursion P L
   all_from P [] f = tt
   all_from P (x ∷ L) f = (f x here, all_from P L (λ a h. f a (there h)))
 
-  pub all_sublist : (P : X → Type 0) {S L : List X} → Sublist S L → All P L → All P S
+  pub all_sublist : (P : X → Type 0) {S L : List X} → Sublist S L → AllByRecursion P L → AllByRecursion P S
   all_sublist P none h = tt
   all_sublist P (skip p) h = all_sublist P p h.1
   all_sublist P (keep p) h = (h.0, all_sublist P p h.1)
@@ -96,7 +96,7 @@ in_sublists none = here
 in_sublists (skip p) = in_left _ (in_sublists p)
 in_sublists (keep {x = x} {L = L} p) = in_right (sublists L) (in_map (λ S. x ∷ S) (in_sublists p))
 
-pub all_sublists : {X : Type 0} (L : List X) (P : List X → Type 0) → ((S : List X) → Sublist S L → P S) → All P (sublists L)
+pub all_sublists : {X : Type 0} (L : List X) (P : List X → Type 0) → ((S : List X) → Sublist S L → P S) → AllByRecursion P (sublists L)
 all_sublists [] P f = (f [] none, tt)
 all_sublists (x ∷ L) P f =
     All-append P (sublists L) (map (λ S. x ∷ S) (sublists L))

@@ -1,7 +1,7 @@
 -- The limits are the earliest starts as time runs back.
 use Rattle.std.specs.Prelude.{◌≡◌, ℕ, ◌+◌, ◌-◌, ◌<◌, ◌≤◌, max, Bool, true, false, not, ◌&&◌, ◌||◌, List, [], ◌∷◌, ◌++◌, map, ◌==◌, nat_lt, refl}
 use Rattle.std.proofs.Common.{sym, ap, ◌∙◌, ⊎_elim, arith}
-use Rattle.std.specs.List.{AllByRecursion as All}
+use Rattle.std.specs.List.{AllByRecursion}
 use Rattle.std.proofs.ByRecursion.{all_kept_by}
 use Rattle.std.proofs.lemmas.Bool.{both_ways, cases_Bool, cond-true, cond-false, cases_lt, and_parts, and_left, lt-ltb, le-ltb}
 use Rattle.station.specs.declared.task.Task.{Task}
@@ -31,7 +31,7 @@ sublists-map f (x ∷ L) =
     ∙ ap (λ P. map (map f) (sublists L) ++ P) (map-map (map f) (λ S. f x ∷ S) (sublists L) ∙ sym (map-map (λ S. x ∷ S) (map f) (sublists L)))
     ∙ sym (map-++ (map f) (sublists L) (map (λ S. x ∷ S) (sublists L)))
 
-any-map : {X Y : Type 0} (h : X → Y) (f : Y → Bool) (g : X → Bool) (L : List X) → All (λ x. f (h x) ≡ g x) L → any f (map h L) ≡ any g L
+any-map : {X Y : Type 0} (h : X → Y) (f : Y → Bool) (g : X → Bool) (L : List X) → AllByRecursion (λ x. f (h x) ≡ g x) L → any f (map h L) ≡ any g L
 any-map h f g [] a = refl
 any-map h f g (x ∷ L) a = ap (λ (b : Bool). b || any f (map h L)) a.0 ∙ ap (λ (b : Bool). g x || b) (any-map h f g L a.1)
 
@@ -50,7 +50,7 @@ abbrev turned : Task → ℕ → ℕ
 turned i y = horizon + 1 - (y + i.span)
 
 -- a bound from above over L is one from below over what L becomes as time runs back
-at_most-turned : {X Y : Type 0} (h : X → Y) (i : Task) (f : Y → Bool) (g : Y → ℕ) (f' : X → Bool) (v : X → ℕ) (x : ℕ) (L : List X) → All (λ S. (f (h S) ≡ f' S) × (f' S ≡ true → v S ≡ turned i (g (h S)))) L → at_most f' v (turned i x) L ≡ turned i (at_least f g x (map h L))
+at_most-turned : {X Y : Type 0} (h : X → Y) (i : Task) (f : Y → Bool) (g : Y → ℕ) (f' : X → Bool) (v : X → ℕ) (x : ℕ) (L : List X) → AllByRecursion (λ S. (f (h S) ≡ f' S) × (f' S ≡ true → v S ≡ turned i (g (h S)))) L → at_most f' v (turned i x) L ≡ turned i (at_least f g x (map h L))
 at_most-turned h i f g f' v x [] a = refl
 at_most-turned h i f g f' v x (S ∷ L) a =
     let ih : at_most f' v (turned i x) L ≡ turned i (at_least f g x (map h L)) = at_most-turned h i f g f' v x L a.1 in
@@ -84,7 +84,7 @@ record Turned (S : List Task) : Type 0 where
   pub lct_most : lct S ≤ horizon
   pub last_most : greatest last_start S ≤ horizon
 
-turned_set : (S : List Task) → All Fit S → nonempty S ≡ true → Turned S
+turned_set : (S : List Task) → AllByRecursion Fit S → nonempty S ≡ true → Turned S
 turned_set [] h e = absurd (both_ways false refl e)
 turned_set (t ∷ []) h e =
     let f = h.0 in
@@ -103,7 +103,7 @@ turned_set (t ∷ s ∷ S) h e =
     }
 
 -- a test of a set that is not empty
-test_same : (S : List Task) → All Fit S → (a b c d : ℕ) → (Turned S → (a < b → c < d) × (c < d → a < b)) → (nonempty (map mirror S) && nat_lt a b) ≡ (nonempty S && nat_lt c d)
+test_same : (S : List Task) → AllByRecursion Fit S → (a b c d : ℕ) → (Turned S → (a < b → c < d) × (c < d → a < b)) → (nonempty (map mirror S) && nat_lt a b) ≡ (nonempty S && nat_lt c d)
 test_same S h a b c d f =
     ⊎_elim
     (λ (e : nonempty S ≡ true).
@@ -112,7 +112,7 @@ test_same S h a b c d f =
     (λ (e : nonempty S ≡ false). and_left _ _ (nonempty-map S ∙ e) ∙ sym (and_left _ _ e))
     (cases_Bool (nonempty S))
 
-module _ (U : List Task) (fit : All Fit U) where
+module _ (U : List Task) (fit : AllByRecursion Fit U) where
   pub overloaded_mirrored : edges_overloaded (map mirror U) ≡ edges_overloaded U
   overloaded_mirrored =
       ap (any overloads) (sublists-map mirror U) ∙
@@ -125,14 +125,14 @@ module _ (U : List Task) (fit : All Fit U) where
     start : own_limit i ≡ turned i (mirror i).lo
     start = omega (arith, own.ends)
 
-    fit-others : All Fit (others i U)
+    fit-others : AllByRecursion Fit (others i U)
     fit-others = all_kept_by _ Fit U fit
 
     sets_map : sublists (others (mirror i) (map mirror U)) ≡ map (map mirror) (sublists (others i U))
     sets_map = ap sublists (others-map i U) ∙ sublists-map mirror (others i U)
 
     -- the same for each set of others
-    sets_turned : (f : List Task → Bool) (g : List Task → ℕ) (f' : List Task → Bool) (v : List Task → ℕ) → ((S : List Task) → All Fit S → (f (map mirror S) ≡ f' S) × (f' S ≡ true → v S ≡ turned i (g (map mirror S)))) → at_most f' v (own_limit i) (sublists (others i U)) ≡ turned i (at_least f g (mirror i).lo (sublists (others (mirror i) (map mirror U))))
+    sets_turned : (f : List Task → Bool) (g : List Task → ℕ) (f' : List Task → Bool) (v : List Task → ℕ) → ((S : List Task) → AllByRecursion Fit S → (f (map mirror S) ≡ f' S) × (f' S ≡ true → v S ≡ turned i (g (map mirror S)))) → at_most f' v (own_limit i) (sublists (others i U)) ≡ turned i (at_least f g (mirror i).lo (sublists (others (mirror i) (map mirror U))))
     sets_turned f g f' v h =
         ap (λ (x : ℕ). at_most f' v x (sublists (others i U))) start ∙
         at_most-turned (map mirror) i f g f' v (mirror i).lo (sublists (others i U)) (all_sublists (others i U) _ (λ S p. h S (all_sublist Fit p fit-others))) ∙
@@ -152,7 +152,7 @@ module _ (U : List Task) (fit : All Fit U) where
       λ e. let r = turned_set S h (and_parts _ _ e).0 in omega (arith, r.ect_is, r.last_most),
     ))
 
-    parts_turned : (S : List Task) → All Fit S → nonempty S ≡ true → limit_before i S ≡ turned i (earliest_completion (map mirror S))
+    parts_turned : (S : List Task) → AllByRecursion Fit S → nonempty S ≡ true → limit_before i S ≡ turned i (earliest_completion (map mirror S))
     parts_turned S h e =
         let v : List Task → ℕ = λ T. lct T + 1 - (work T + i.span) in
         let l : lct S ≤ horizon = (turned_set S h e).lct_most in
@@ -168,11 +168,11 @@ module _ (U : List Task) (fit : All Fit U) where
       λ e. parts_turned S h (and_parts _ _ e).0,
     ))
 
-  pub pairs_mirrored : All (λ i. pairs_limit i U ≡ turned i (pairs_earliest (mirror i) (map mirror U))) U
+  pub pairs_mirrored : AllByRecursion (λ i. pairs_limit i U ≡ turned i (pairs_earliest (mirror i) (map mirror U))) U
   pairs_mirrored = all_from _ U pairs_turned
 
-  pub edges_mirrored : All (λ i. edges_limit i U ≡ turned i (edges_earliest (mirror i) (map mirror U))) U
+  pub edges_mirrored : AllByRecursion (λ i. edges_limit i U ≡ turned i (edges_earliest (mirror i) (map mirror U))) U
   edges_mirrored = all_from _ U edges_turned
 
-  pub not_first-mirrored : All (λ i. not_first_limit i U ≡ turned i (not_first_earliest (mirror i) (map mirror U))) U
+  pub not_first-mirrored : AllByRecursion (λ i. not_first_limit i U ≡ turned i (not_first_earliest (mirror i) (map mirror U))) U
   not_first-mirrored = all_from _ U not_first-turned

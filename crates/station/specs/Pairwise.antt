@@ -1,7 +1,7 @@
 -- Lists of which each stands so to every later one.
 use Rattle.std.specs.Prelude.{◌≡◌, ℕ, zero, suc, ◌<◌, ◌⊎◌, List, [], ◌∷◌, ◌++◌, length, drop, ◌≢◌}
 use Rattle.std.proofs.Common.{sym, ap, subst, ◌∙◌, inl, inr, ⊎_elim, arith}
-use Rattle.std.specs.List.{AllByRecursion as All}
+use Rattle.std.specs.List.{AllByRecursion}
 use Rattle.std.proofs.ByRecursion.{All-from_get_or, All-get_or, All-push}
 use Rattle.std.proofs.lemmas.Bool.{cases_order}
 use Rattle.station.specs.declared.task.Task.{Task}
@@ -19,7 +19,7 @@ module _ {X : Type 0} (R : X → X → Type 0) where
   pairwise_drop (suc n) [] h = h
   pairwise_drop (suc n) (x ∷ L) h = pairwise_drop n L h.1
 
-  pub pairwise_push : (L : List X) (y : X) → Pairwise R L → All (λ x. R x y) L → Pairwise R (L ++ (y ∷ []))
+  pub pairwise_push : (L : List X) (y : X) → Pairwise R L → AllByRecursion (λ x. R x y) L → Pairwise R (L ++ (y ∷ []))
   pairwise_push [] y h a = (tt, tt)
   pairwise_push (x ∷ L) y h a = (All-push (R x) L y h.0 a.0, pairwise_push L y h.1 a.1)
 
@@ -38,7 +38,7 @@ module _ (R : Task → Task → Type 0) where
   pairwise_at (x ∷ U) s (suc j) (suc k) h l = pairwise_at U s.1 j k (omega arith) (omega arith)
 
   -- all behind a place
-  pub pairwise_behind : (k : ℕ) (U : List Task) → k < length U → Pairwise R U → All (R (at U k)) (drop (suc k) U)
+  pub pairwise_behind : (k : ℕ) (U : List Task) → k < length U → Pairwise R U → AllByRecursion (R (at U k)) (drop (suc k) U)
   pairwise_behind k [] h s = absurd (omega arith)
   pairwise_behind zero (x ∷ U) h s = s.0
   pairwise_behind (suc k) (x ∷ U) h s = pairwise_behind k U (omega arith) s.1

@@ -1,7 +1,7 @@
 -- Tasks of which no two overlap take as long as their spans together.
 use Rattle.std.specs.Prelude.{◌≡◌, ℕ, zero, suc, ◌+◌, ◌<◌, ◌≤◌, Bool, true, not, List, [], ◌∷◌, length, filter, ◌==◌, nat_le}
 use Rattle.std.proofs.Common.{sym, inl, inr, ⊎_elim, arith}
-use Rattle.std.specs.List.{AllByRecursion as All}
+use Rattle.std.specs.List.{AllByRecursion}
 use Rattle.std.proofs.ByRecursion.{kept_by_passes, all_kept_by}
 use Rattle.std.proofs.lemmas.Bool.{leb-true, leb-false, eqb-false, not-true}
 use Rattle.station.specs.declared.task.Task.{Task}
@@ -17,7 +17,7 @@ module _ (st : Task → ℕ) where
   pub apart-turned : (x y : Task) → Apart st x y → Apart st y x
   apart-turned x y a = ⊎_elim (λ (z : st x + x.span ≤ st y). inr z) (λ (z : st y + y.span ≤ st x). inl z) a
 
-  pub takes : (n : ℕ) (S : List Task) → length S ≤ n → Pairwise (Apart st) S → (a b : ℕ) → a ≤ b → All (λ t. a ≤ st t) S → All (λ t. st t + t.span ≤ b) S → a + work S ≤ b
+  pub takes : (n : ℕ) (S : List Task) → length S ≤ n → Pairwise (Apart st) S → (a b : ℕ) → a ≤ b → AllByRecursion (λ t. a ≤ st t) S → AllByRecursion (λ t. st t + t.span ≤ b) S → a + work S ≤ b
   takes n [] l d a b h f g = omega arith
   takes zero (t ∷ S) l d a b h f g = absurd (omega arith)
   takes (suc n) (t ∷ S) l d a b h f g =
@@ -31,7 +31,7 @@ module _ (st : Task → ℕ) where
       let ta : a ≤ st t = f.0 in
       let tb : st t + t.span ≤ b = g.0 in
       let x : a + work A ≤ st t = takes n A (omega arith) (sub q) a (st t) ta (all_kept_by q _ S f.1) (all_from _ A (λ s m. leb-true _ _ (all_in (λ s. q s ≡ true) m (kept_by_passes q S)))) in
-      let late : All (λ s. st t + t.span ≤ st s) B = all_from _ B (λ s m.
+      let late : AllByRecursion (λ s. st t + t.span ≤ st s) B = all_from _ B (λ s m.
       let e : st t < st s + s.span = leb-false _ _ (not-true _ (all_in (λ s. r s ≡ true) m (kept_by_passes r S))) in
       ⊎_elim
       (λ (y : st t + t.span ≤ st s). y)
@@ -49,7 +49,7 @@ module _ (st : Task → ℕ) where
     set-high {S} k t m = omega (arith, greatest_ge (λ t. t.end) m, all_in (λ t. st t + t.span ≤ t.end) (in_sublist k t m) p.high)
 
     -- a set that lies within two minutes
-    pub set_takes : {S : List Task} → Sublist S L → nonempty S ≡ true → (b : ℕ) → All (λ t. st t + t.span ≤ b) S → est S + work S ≤ b
+    pub set_takes : {S : List Task} → Sublist S L → nonempty S ≡ true → (b : ℕ) → AllByRecursion (λ t. st t + t.span ≤ b) S → est S + work S ≤ b
     set_takes {S} k e b h =
         let g = greatest_in (λ t. t.end) S e in
         takes (length S) S (omega arith) (pairwise_sublist (Apart st) k p.apart) (est S) b
@@ -58,7 +58,7 @@ module _ (st : Task → ℕ) where
 
     module _ (i : Task) (m : In i L) where
       -- i and a set of others
-      pub apart-others : {S : List Task} → Sublist S (others i L) → All (Apart st i) S
+      pub apart-others : {S : List Task} → Sublist S (others i L) → AllByRecursion (Apart st i) S
       apart-others {S} k = all_from _ S (λ s n.
           let o : not (s.job == i.job) ≡ true = all_in (λ t. not (t.job == i.job) ≡ true) (in_sublist k s n) (kept_by_passes (λ t. not (t.job == i.job)) L) in
           ⊎_elim
@@ -66,6 +66,6 @@ module _ (st : Task → ℕ) where
           (λ (a : Apart st s i). apart-turned s i a)
           (pairwise_in (Apart st) p.apart i s m (in_sublist (sublist_trans (sublist_kept _ L) k) s n) (λ e. eqb-false _ _ (not-true _ o) (sym e))))
 
-      pub with_takes : {S : List Task} → Sublist S (others i L) → (a b : ℕ) → a ≤ st i → st i + i.span ≤ b → All (λ t. a ≤ st t) S → All (λ t. st t + t.span ≤ b) S → a + work (i ∷ S) ≤ b
+      pub with_takes : {S : List Task} → Sublist S (others i L) → (a b : ℕ) → a ≤ st i → st i + i.span ≤ b → AllByRecursion (λ t. a ≤ st t) S → AllByRecursion (λ t. st t + t.span ≤ b) S → a + work (i ∷ S) ≤ b
       with_takes {S} k a b lo hi f g =
           takes (length (i ∷ S)) (i ∷ S) (omega arith) (apart-others k, pairwise_sublist (Apart st) (sublist_trans (sublist_kept _ L) k) p.apart) a b (omega arith) (lo, f) (hi, g)

@@ -1,7 +1,7 @@
 -- Each kernel loses no timetable, and sees every overlap of single starts.
 use Rattle.std.specs.Prelude.{◌≡◌, ℕ, ◌+◌, ◌<◌, ◌≤◌, true, false, not, ◌⊎◌, List, [], ◌∷◌, ◌==◌, ◌≢◌, refl}
 use Rattle.std.proofs.Common.{sym, inl, inr, ⊎_elim, arith}
-use Rattle.std.specs.List.{AllByRecursion as All}
+use Rattle.std.specs.List.{AllByRecursion}
 use Rattle.std.proofs.lemmas.Bool.{cases_Bool, cases_lt, and_from, and_parts, and_left, and_right, ltb-true, lt-ltb, le-ltb, ne_eqb, not_from_false}
 use Rattle.station.specs.declared.task.Task.{Task}
 use Rattle.station.specs.Edges.{earliest_completion, edges_earliest, edges_overloaded, ends_last, overloads}
@@ -26,7 +26,7 @@ module _ (st : Task → ℕ) (U : List Task) (p : Placed st U) where
   from-others : (i t : Task) → In t (others i U) → In t U
   from-others i t m = in_sublist (sublist_kept _ U) t m
 
-  pub pairs_keeps : All (λ i. pairs_earliest i U ≤ st i) U
+  pub pairs_keeps : AllByRecursion (λ i. pairs_earliest i U ≤ st i) U
   pairs_keeps = all_from _ U (λ i m.
       at_least_le (comes_after i) ect i.lo (others i U) (st i) (starts-low i m) (all_from _ (others i U) (λ j n e.
       let late : last_start j < ect i = ltb-true _ _ e in
@@ -59,7 +59,7 @@ module _ (st : Task → ℕ) (U : List Task) (p : Placed st U) where
         )))
         (cases_lt (lct S) (st i + i.span))
 
-    all_before : nonempty S ≡ true → lct S < est (i ∷ S) + work (i ∷ S) → All (λ s. st s + s.span ≤ st i) S
+    all_before : nonempty S ≡ true → lct S < est (i ∷ S) + work (i ∷ S) → AllByRecursion (λ s. st s + s.span ≤ st i) S
     all_before e h = all_from _ S (λ s n.
         ⊎_elim
         (λ (y : st i + i.span ≤ st s). absurd (omega (arith, set-high st U p of_station s n, ends-late e h)))
@@ -67,14 +67,14 @@ module _ (st : Task → ℕ) (U : List Task) (p : Placed st U) where
         (all_in (Apart st i) n (apart-others st U p i m k)))
 
     -- one of them comes before i, or i before them all
-    before_or : (V : List Task) → All (Apart st i) V → ((s : Task) × In s V × (st s + s.span ≤ st i)) ⊎ All (λ s. st i + i.span ≤ st s) V
+    before_or : (V : List Task) → AllByRecursion (Apart st i) V → ((s : Task) × In s V × (st s + s.span ≤ st i)) ⊎ AllByRecursion (λ s. st i + i.span ≤ st s) V
     before_or [] a = inr tt
     before_or (s ∷ V) a =
         ⊎_elim
         (λ (x : st i + i.span ≤ st s).
         ⊎_elim
         (λ (r : (s : Task) × In s V × (st s + s.span ≤ st i)). inl (r.0, there r.1, r.2))
-        (λ (r : All (λ s. st i + i.span ≤ st s) V). inr (x, r))
+        (λ (r : AllByRecursion (λ s. st i + i.span ≤ st s) V). inr (x, r))
         (before_or V a.1))
         (λ (x : st s + s.span ≤ st i). inl (s, here, x))
         a.0
@@ -83,7 +83,7 @@ module _ (st : Task → ℕ) (U : List Task) (p : Placed st U) where
     after_one e h =
         ⊎_elim
         (λ (r : (s : Task) × In s S × (st s + s.span ≤ st i)). omega (arith, least_le ect r.1, starts-low r.0 (in_sublist of_station r.0 r.1), r.2))
-        (λ (r : All (λ s. st i + i.span ≤ st s) S). absurd (
+        (λ (r : AllByRecursion (λ s. st i + i.span ≤ st s) S). absurd (
         let g = greatest_in (λ t. t.end) S e in
         let a : st i + i.span ≤ st g.0 = all_in (λ s. st i + i.span ≤ st s) g.1 r in
         omega (
@@ -94,21 +94,21 @@ module _ (st : Task → ℕ) (U : List Task) (p : Placed st U) where
         )))
         (before_or S (apart-others st U p i m k))
 
-  pub edges_keeps : All (λ i. edges_earliest i U ≤ st i) U
+  pub edges_keeps : AllByRecursion (λ i. edges_earliest i U ≤ st i) U
   edges_keeps = all_from _ U (λ i m.
       at_least-sublists (ends_last i) earliest_completion i.lo (others i U) (st i) (starts-low i m) (λ S k c.
       let y = and_parts _ _ c in
       at_least-sublists nonempty (λ T. est T + work T) 0 S (st i) (omega arith) (λ T l n.
       set_takes st U p (sublist_trans (of_station i m S k) l) n (st i) (all_sublist _ l (all_before i m S k y.0 (ltb-true _ _ y.1))))))
 
-  pub not_first-keeps : All (λ i. not_first_earliest i U ≤ st i) U
+  pub not_first-keeps : AllByRecursion (λ i. not_first_earliest i U ≤ st i) U
   not_first-keeps = all_from _ U (λ i m.
       at_least-sublists (not_first i) (λ S. least ect S) i.lo (others i U) (st i) (starts-low i m) (λ S k c.
       let y = and_parts _ _ c in
       after_one i m S k y.0 (ltb-true _ _ y.1)))
 
 -- single starts that no bound has moved
-module _ (U : List Task) (formed : Formed U) (single : All Single U) where
+module _ (U : List Task) (formed : Formed U) (single : AllByRecursion Single U) where
   -- where of two tasks one that cannot come before the other comes after it, no two overlap
   apart_from : ((x y : Task) → In x U → In y (others x U) → y.lo < x.lo + x.span → ect y ≤ x.lo) → Pairwise (Apart (λ t. t.lo)) U
   apart_from f = pairwise_from (Apart (λ t. t.lo)) U (λ j k jk kU.
@@ -127,7 +127,7 @@ module _ (U : List Task) (formed : Formed U) (single : All Single U) where
   other_in : (x y : Task) → In y (others x U) → In y U
   other_in x y m = in_sublist (sublist_kept _ U) y m
 
-  pub pairs_checks : All (λ i. pairs_earliest i U ≤ i.lo) U → Pairwise (Apart (λ t. t.lo)) U
+  pub pairs_checks : AllByRecursion (λ i. pairs_earliest i U ≤ i.lo) U → Pairwise (Apart (λ t. t.lo)) U
   pairs_checks f = apart_from (λ x y mx my z.
       omega (
         arith,
@@ -135,7 +135,7 @@ module _ (U : List Task) (formed : Formed U) (single : All Single U) where
         at_least_by (comes_after x) ect x.lo my (lt-ltb _ _ (omega (arith, single_at y (other_in x y my)))),
       ))
 
-  pub edges_checks : All (λ i. edges_earliest i U ≤ i.lo) U → Pairwise (Apart (λ t. t.lo)) U
+  pub edges_checks : AllByRecursion (λ i. edges_earliest i U ≤ i.lo) U → Pairwise (Apart (λ t. t.lo)) U
   edges_checks f = apart_from (λ x y mx my z.
       let some : 1 ≤ x.span = (all_in Fit mx formed.fit).some in
       let last : ends_last x (y ∷ []) ≡ true = and_from _ _ refl (lt-ltb _ _ (omega (arith, single_at y (other_in x y my)))) in
@@ -143,7 +143,7 @@ module _ (U : List Task) (formed : Formed U) (single : All Single U) where
       let b : y.lo + (y.span + 0) ≤ earliest_completion (y ∷ []) = at_least_sublist nonempty (λ T. est T + work T) 0 (sublist_whole (y ∷ [])) refl in
       omega (arith, all_in (λ i. edges_earliest i U ≤ i.lo) mx f))
 
-  pub not_first-checks : All (λ i. not_first_earliest i U ≤ i.lo) U → Pairwise (Apart (λ t. t.lo)) U
+  pub not_first-checks : AllByRecursion (λ i. not_first_earliest i U ≤ i.lo) U → Pairwise (Apart (λ t. t.lo)) U
   not_first-checks f = apart_from (λ x y mx my z.
       omega (
         arith,

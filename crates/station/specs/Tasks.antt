@@ -1,6 +1,6 @@
 -- Tasks of one station, as a list.
 use Rattle.std.specs.Prelude.{◌≡◌, ℕ, ◌+◌, ◌-◌, ◌≤◌, List, [], ◌∷◌, length, ◌≢◌, slice_index_or}
-use Rattle.std.specs.List.{AllByRecursion as All}
+use Rattle.std.specs.List.{AllByRecursion}
 use Rattle.station.specs.declared.task.Task.{Task}
 use Rattle.station.specs.Limits.{horizon, longest, most_tasks}
 
@@ -31,7 +31,7 @@ Single t = t.end ≡ t.lo + t.span
 -- each stands so to every later one
 abbrev pub Pairwise : {X : Type 0} → (X → X → Type 0) → List X → Type 0
 Pairwise R [] = Unit {0}
-Pairwise R (x ∷ xs) = All (R x) xs × Pairwise R xs
+Pairwise R (x ∷ xs) = AllByRecursion (R x) xs × Pairwise R xs
 
 -- what a task keeps to
 pub record Fit (t : Task) : Type 0 where
@@ -43,5 +43,5 @@ pub record Fit (t : Task) : Type 0 where
 -- what the tasks of a station keep to; no two are of one job
 pub record Formed (U : List Task) : Type 0 where
   pub few : length U ≤ most_tasks
-  pub fit : All Fit U
+  pub fit : AllByRecursion Fit U
   pub distinct : Pairwise (λ s t. s.job ≢ t.job) U

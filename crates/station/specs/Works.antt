@@ -1,7 +1,7 @@
 -- The work of those tasks of which a test holds.
 use Rattle.std.specs.Prelude.{◌≡◌, ℕ, zero, suc, ◌+◌, ◌*◌, ◌<◌, ◌≤◌, Bool, true, false, cond, not, List, [], ◌∷◌, length, drop, filter, ◌==◌, ◌≢◌, refl}
 use Rattle.std.proofs.Common.{sym, ap, ◌∙◌, ⊎_elim, arith, drop-cons}
-use Rattle.std.specs.List.{AllByRecursion as All}
+use Rattle.std.specs.List.{AllByRecursion}
 use Rattle.std.proofs.lemmas.Bool.{both_ways, cases_Bool, cond-true, cond-false, cond_both, eq-eqb, ne_eqb, not_from_false, not_from_true}
 use Rattle.station.specs.declared.task.Task.{Task}
 use Rattle.station.specs.EdgesPasses.{work_of}
@@ -15,7 +15,7 @@ total-drop f zero U = omega arith
 total-drop f (suc n) [] = omega arith
 total-drop f (suc n) (x ∷ U) = let h : total f (drop n U) ≤ total f U = total-drop f n U in omega arith
 
-pub work-some : (S : List Task) → nonempty S ≡ true → All (λ t. 1 ≤ t.span) S → 0 < work S
+pub work-some : (S : List Task) → nonempty S ≡ true → AllByRecursion (λ t. 1 ≤ t.span) S → 0 < work S
 work-some [] e h = absurd (both_ways false refl e)
 work-some (t ∷ S) e h = let p : 1 ≤ t.span = h.0 in omega arith
 
@@ -30,7 +30,7 @@ module _ (q : Task → Bool) where
   pub span-no : (t : Task) → q t ≡ false → cond (q t) t.span 0 ≡ 0
   span-no t e = cond-false (q t) _ _ e
 
-  pub work_mono : (r : Task → Bool) (L : List Task) → All (λ t. q t ≡ true → r t ≡ true) L → work_of q L ≤ work_of r L
+  pub work_mono : (r : Task → Bool) (L : List Task) → AllByRecursion (λ t. q t ≡ true → r t ≡ true) L → work_of q L ≤ work_of r L
   work_mono r [] h = omega arith
   work_mono r (t ∷ L) h =
       let p : work_of q L ≤ work_of r L = work_mono r L h.1 in
@@ -49,7 +49,7 @@ module _ (q : Task → Bool) where
       (cases_Bool (q t))
 
   -- a set whose tasks all pass has no more than all that pass
-  pub work_sublist : {S L : List Task} → Sublist S L → All (λ t. q t ≡ true) S → work S ≤ work_of q L
+  pub work_sublist : {S L : List Task} → Sublist S L → AllByRecursion (λ t. q t ≡ true) S → work S ≤ work_of q L
   work_sublist none h = omega arith
   work_sublist (skip {S = S} {L = L} p) h = let r : work S ≤ work_of q L = work_sublist p h in omega arith
   work_sublist (keep {x = t} {S = S} {L = L} p) h =
@@ -61,7 +61,7 @@ module _ (q : Task → Bool) where
   work_in {t} (there {x = x} {L = L} m) e = let r : t.span ≤ work_of q L = work_in m e in omega arith
 
   -- what another test has let through already
-  pub work_of-kept : (r : Task → Bool) (L : List Task) → All (λ t. q t ≡ true → r t ≡ true) L → work_of q (filter r L) ≡ work_of q L
+  pub work_of-kept : (r : Task → Bool) (L : List Task) → AllByRecursion (λ t. q t ≡ true → r t ≡ true) L → work_of q (filter r L) ≡ work_of q L
   work_of-kept r [] h = refl
   work_of-kept r (t ∷ L) h =
       let p : work_of q (filter r L) ≡ work_of q L = work_of-kept r L h.1 in
@@ -94,7 +94,7 @@ module _ (q : Task → Bool) where
   work-here U j h = ap (work_of q) (drop-cons U j no_task h)
 
   -- never more than the most work
-  work-short : (U : List Task) → All Fit U → work_of q U ≤ longest * length U
+  work-short : (U : List Task) → AllByRecursion Fit U → work_of q U ≤ longest * length U
   work-short [] h = omega arith
   work-short (t ∷ U) h =
       let r : work_of q U ≤ longest * length U = work-short U h.1 in
@@ -122,5 +122,5 @@ module _ (q : Task → Bool) (i : Task) where
       let z : others i (x ∷ L) ≡ x ∷ others i L = cond-true (other x) _ _ (not_from_false _ (ne_eqb _ _ (λ y. all_in (λ s. x.job ≢ s.job) m d.0 y))) in
       omega (arith, ap (work_of q) z)
 
-  pub work_with : {L : List Task} → In i L → Pairwise (λ s t. s.job ≢ t.job) L → q i ≡ true → (S : List Task) → Sublist S (others i L) → All (λ t. q t ≡ true) S → i.span + work S ≤ work_of q L
+  pub work_with : {L : List Task} → In i L → Pairwise (λ s t. s.job ≢ t.job) L → q i ≡ true → (S : List Task) → Sublist S (others i L) → AllByRecursion (λ t. q t ≡ true) S → i.span + work S ≤ work_of q L
   work_with {L} m d e S p h = omega (arith, work_sublist q p h, others-work m d, span-yes q i e)

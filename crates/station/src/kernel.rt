@@ -1,7 +1,7 @@
 // What every kernel is, and the new first starts of a station's tasks by job number.
 ghost use Rattle.std.specs.Prelude.{◌≡◌, ℕ, ◌<◌, ◌≤◌, Bool, false, List, length, ◌≢◌, slice_index};
 ghost use Rattle.std.specs.List.Sorted.{IsPermutation};
-ghost use Rattle.std.specs.List.{AllByRecursion as All};
+ghost use Rattle.std.specs.List.{AllByRecursion};
 ghost use Rattle.station.specs.declared.task.Task.{Task};
 ghost use Rattle.station.specs.Limits.{most_tasks};
 ghost use Rattle.station.specs.Tasks.{at, Formed};
@@ -36,9 +36,9 @@ fn scatter(tasks: &[Task], values: &[u32], out: &mut [u32])
     requires formed { Formed tasks.now }
     requires len { length values.now ≡ length tasks.now }
     requires few { length out.old ≤ most_tasks }
-    requires numbered { All (λ t. t.job < length out.old) tasks.now }
+    requires numbered { AllByRecursion (λ t. t.job < length out.old) tasks.now }
     ensures written { (q : ℕ) → q < length tasks.now → slice_index out.new (at tasks.now q).job ≡ slice_index values.now q }
-    ensures kept { (j : ℕ) → All (λ t. t.job ≢ j) tasks.now → slice_index out.new j ≡ slice_index out.old j }
+    ensures kept { (j : ℕ) → AllByRecursion (λ t. t.job ≢ j) tasks.now → slice_index out.new j ≡ slice_index out.old j }
 {
     for q in 0..tasks.len() {
         out[tasks[q].job] = values[q];
@@ -49,10 +49,10 @@ fn scatter(tasks: &[Task], values: &[u32], out: &mut [u32])
 pub fn raise_by_job<K: Kernel>(tasks: &mut [Task], out: &mut [u32]) -> bool
     requires formed { Formed tasks.old }
     requires few { length out.old ≤ most_tasks }
-    requires numbered { All (λ t. t.job < length out.old) tasks.old }
+    requires numbered { AllByRecursion (λ t. t.job < length out.old) tasks.old }
     ensures load { result ≡ K.Kernel.overloaded tasks.old }
-    ensures raised { result ≡ false → All (λ t. slice_index out.new t.job ≡ K.Kernel.earliest t tasks.old) tasks.old }
-    ensures kept { (j : ℕ) → All (λ t. t.job ≢ j) tasks.old → slice_index out.new j ≡ slice_index out.old j }
+    ensures raised { result ≡ false → AllByRecursion (λ t. slice_index out.new t.job ≡ K.Kernel.earliest t tasks.old) tasks.old }
+    ensures kept { (j : ℕ) → AllByRecursion (λ t. t.job ≢ j) tasks.old → slice_index out.new j ≡ slice_index out.old j }
 {
     let mut store: [u32; MOST_TASKS] = [0; MOST_TASKS];
     let lows = &mut store[0..tasks.len()];

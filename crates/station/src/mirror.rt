@@ -1,6 +1,6 @@
 // Time the other way round.
 ghost use Rattle.std.specs.Prelude.{◌≡◌, map};
-ghost use Rattle.std.specs.List.{AllByRecursion as All};
+ghost use Rattle.std.specs.List.{AllByRecursion};
 ghost use Rattle.station.specs.Tasks.{Fit};
 ghost use Rattle.station.specs.Mirror.{mirror};
 
@@ -9,7 +9,7 @@ use crate::task::Task;
 
 /// Has time run back from the horizon.
 pub fn reverse_time(tasks: &mut [Task])
-    requires { All Fit tasks.old }
+    requires { AllByRecursion Fit tasks.old }
     ensures { tasks.new ≡ map mirror tasks.old }
 {
     for k in 0..tasks.len() {

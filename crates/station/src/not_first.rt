@@ -2,7 +2,7 @@
 ghost use Rattle.std.specs.Prelude.{◌≡◌, ℕ, ◌<◌, false, length, slice_index};
 ghost use Rattle.station.specs.Tasks.{at, Fit, Formed};
 ghost use Rattle.station.specs.NotFirst.{not_first_earliest, not_first_limit};
-ghost use Rattle.station.specs.NotFirstPasses.{slack as least-slack, front, raised_by_sooner, raised_by_any, raised_from_all};
+ghost use Rattle.station.specs.NotFirstPasses.{slack as least_slack, front, raised_by_sooner, raised_by_any, raised_from_all};
 ghost use Rattle.station.specs.Laws.{not_first_lawful};
 
 use crate::kernel::Kernel;
@@ -18,7 +18,7 @@ pub struct NotFirstNotLast;
 fn raise_by_sooner(tasks: &[Task], lows: &mut [u32], ready: u32) -> u32
     requires formed { Formed tasks.now }
     requires len { length lows.old ≡ length tasks.now }
-    ensures slack { result ≡ least-slack ready tasks.now }
+    ensures slack { result ≡ least_slack ready tasks.now }
     ensures lows { (q : ℕ) → q < length tasks.now → slice_index lows.new q ≡ raised_by_sooner ready tasks.now q (slice_index lows.old q) }
 {
     let mut work: u32 = 0;
@@ -52,7 +52,7 @@ fn front_of(task: Task, ready: u32) -> u32
 fn raise_by_any(tasks: &[Task], lows: &mut [u32], ready: u32, slack: u32)
     requires formed { Formed tasks.now }
     requires len { length lows.old ≡ length tasks.now }
-    requires slack { slack ≡ least-slack ready tasks.now }
+    requires slack { slack ≡ least_slack ready tasks.now }
     ensures { (q : ℕ) → q < length tasks.now → slice_index lows.new q ≡ raised_by_any ready tasks.now q (slice_index lows.old q) }
 {
     for k in 0..tasks.len() {
