@@ -50,6 +50,6 @@ module _ (r : Drying) (e : Entries) (s : Sound e) (ws : List Window) (f : Formed
   drying_checks vs single alive i h glued =
       let l = link e.links i in
       let to : l.to < length ws = omega (arith, (s.linked i h).1, f.count) in
-      let still_Open = open_at _ _ (length ws) l.to (together-live _ _ (length ws) vs alive).0 to in
+      let still_open = open_at _ _ (length ws) l.to (together-live _ _ (length ws) vs alive).0 to in
       let dry : dry_at r e.jobs ws l ≡ min ((window ws l.from).lo + (job e.jobs l.from).duration + r.minutes) (last_minute + 1) = cond-true _ _ _ glued in
-      omega (arith, still_Open, earliest_after-link r e.jobs ws e.links i h, f.timely l.to to, single l.to to, starts-at ws l.from, starts-at ws l.to)
+      omega (arith, still_open, earliest_after-link r e.jobs ws e.links i h, f.timely l.to to, single l.to to, starts-at ws l.from, starts-at ws l.to)

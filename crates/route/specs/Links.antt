@@ -67,5 +67,5 @@ module _ (e : Entries) (s : Sound e) (ws : List Window) (f : Formed (length e.jo
   route_checks vs single alive i h =
       let l = link e.links i in
       let to : l.to < length ws = second_there i h in
-      let still_Open = open_at _ _ (length ws) l.to (together-live _ _ (length ws) vs alive).0 to in
-      omega (arith, still_Open, earliest_after-link e.jobs ws e.links i h, latest_not-later e.jobs ws e.links l.to, single l.to to, starts-at ws l.from, starts-at ws l.to)
+      let still_open = open_at _ _ (length ws) l.to (together-live _ _ (length ws) vs alive).0 to in
+      omega (arith, still_open, earliest_after-link e.jobs ws e.links i h, latest_not-later e.jobs ws e.links l.to, single l.to to, starts-at ws l.from, starts-at ws l.to)
