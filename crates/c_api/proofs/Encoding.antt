@@ -8,9 +8,9 @@ use lib.ListN.{length, take, drop, get_or, set, length-append, length-drop, leng
 use lib.Seq.{set_at, take-suc, drop-drop}
 use Rattle.c_api.specs.Buffers.{encoded}
 
-pub encoded-length : (l : List ℕ) → length (encoded l) ≡ 2 * length l
-encoded-length [] = refl
-encoded-length (s ∷ ss) = let h : length (encoded ss) ≡ 2 * length ss = encoded-length ss in omega arith
+pub encoded_length : (l : List ℕ) → length (encoded l) ≡ 2 * length l
+encoded_length [] = refl
+encoded_length (s ∷ ss) = let h : length (encoded ss) ≡ 2 * length ss = encoded_length ss in omega arith
 
 pub encoded_snoc : (l : List ℕ) (s : ℕ) → encoded (l ++ (s ∷ [])) ≡ encoded l ++ ((s % 256) ∷ ((s / 256) ∷ []))
 encoded_snoc [] s = refl
@@ -27,7 +27,7 @@ pair_set p (x ∷ (y ∷ ys)) n a b e h =
 
 pub pair_step : (st B buf : List ℕ) (i : ℕ) → i < length st → 2 * length st ≤ length B → buf ≡ encoded (take i st) ++ drop (2 * i) B → set (set buf (2 * i) (get_or st i 0 % 256)) (2 * i + 1) (get_or st i 0 / 256) ≡ encoded (take (i + 1) st) ++ drop (2 * (i + 1)) B
 pair_step st B buf i h k e =
-    let n : length (encoded (take i st)) ≡ 2 * i = encoded-length (take i st) ∙ simp length-take (omega arith) in
+    let n : length (encoded (take i st)) ≡ 2 * i = encoded_length (take i st) ∙ simp length-take (omega arith) in
     let q : 2 ≤ length (drop (2 * i) B) = simp length-drop (omega arith) in
     let d : drop 2 (drop (2 * i) B) ≡ drop (2 * (i + 1)) B = let z : 2 * i + 2 ≡ 2 * (i + 1) = omega arith in drop-drop 2 (2 * i) B ∙ ap (λ (m : ℕ). drop m B) z in
     ap (λ (l : List ℕ). set (set l (2 * i) (get_or st i 0 % 256)) (2 * i + 1) (get_or st i 0 / 256)) e

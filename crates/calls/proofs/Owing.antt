@@ -50,11 +50,11 @@ module _ (admits : Entries → List ℕ → Type 0) (cut : Entries → List Wind
 
     pub advance_owes : AdvanceOwes admits cut l (outcome_number (outcome_of x))
     advance_owes = record {
-      no-is_true = λ q. promise.none_fits (impossible_by_number x q);
+      no_is_true = λ q. promise.none_fits (impossible_by_number x q);
       found_fits = λ q.
           let d = found_by_number x q in
           (d.1, (d.0, sym stands ∙ d.2), promise.one_fits d.0 d.1 d.2);
       enough_settles = λ h. settled (promise.enough h);
       few_looks = promise.few;
-      open_is-spent = λ q. let d = open_by_number x q in promise.spent d.0 d.1;
+      open_is_spent = λ q. let d = open_by_number x q in promise.spent d.0 d.1;
     }

@@ -36,7 +36,7 @@ module _ (admits : Entries → List ℕ → Type 0) (cut : Entries → List Wind
   -- what an accepted advance owes that answered the outcome o, this advance being noted in the ledger l
   pub record AdvanceOwes (l : Ledger) (o : ℕ) : Type 0 where
     -- impossible only if no timetable fits
-    pub no-is_true : o ≡ outcome_number Impossible → NoneFits l
+    pub no_is_true : o ≡ outcome_number Impossible → NoneFits l
     -- found only with a timetable that fits, that of the search's definition
     pub found_fits : o ≡ outcome_number Found → (t : List ℕ) × FoundTimetable l t × Fitting l t
     -- once the looks granted are at least 2 P - 1: impossible exactly if none fits, and found otherwise
@@ -44,7 +44,7 @@ module _ (admits : Entries → List ℕ → Type 0) (cut : Entries → List Wind
     -- the looks reported never exceed 2 P - 1
     pub few_looks : l.reported ≤ 2 * possible l - 1
     -- and where it answers open they are those granted
-    pub open_is-spent : o ≡ outcome_number Open → l.reported ≡ l.granted
+    pub open_is_spent : o ≡ outcome_number Open → l.reported ≡ l.granted
 
   -- an accepted start answers from the timetable that was found
   abbrev pub StartOwes : Ledger → ℕ → ℕ → Type 0

@@ -10,8 +10,8 @@ use Rattle.commands.proofs.Law.{long_is_ill_written}
 abbrev pub counted : List ℕ → ℕ → Option (List ℕ)
 counted bs n = cond (leb n longest_line) (Some (take n bs)) None
 
-kept-short : (line : List ℕ) → length line ≤ longest_line → kept line ≡ Some line
-kept-short line h = let e : leb (length line) longest_line ≡ true = le-leb _ _ h in rw e
+kept_short : (line : List ℕ) → length line ≤ longest_line → kept line ≡ Some line
+kept_short line h = let e : leb (length line) longest_line ≡ true = le-leb _ _ h in rw e
 
 kept_long : (line : List ℕ) → longest_line < length line → kept line ≡ None
 kept_long line h = let e : leb (length line) longest_line ≡ false = lt-leb _ _ h in rw e
@@ -22,7 +22,7 @@ push_in_place bs n b l h =
     let y : leb (n + 1) longest_line ≡ true = le-leb _ _ (omega arith) in
     let t = length-take-le n bs (omega arith) in
     let p = length_push (take n bs) b in
-    rw (x, y, take_more_set bs n b (omega arith)) (sym (kept-short (take n bs ++ (b ∷ [])) (omega arith)))
+    rw (x, y, take_more_set bs n b (omega arith)) (sym (kept_short (take n bs ++ (b ∷ [])) (omega arith)))
 
 pub push_past : (bs : List ℕ) (n b : ℕ) → length bs ≡ longest_line → longest_line ≤ n → None ≡ longer (counted bs n) b
 push_past bs n b l h =
@@ -33,15 +33,15 @@ push_past bs n b l h =
     sym (kept_long (take n bs ++ (b ∷ [])) (omega arith)))
     (λ _. refl)
 
-pub has_byte-counted : (bs : List ℕ) (n : ℕ) → length bs ≡ longest_line → ltb 0 n ≡ has_byte (counted bs n)
-has_byte-counted [] n l = absurd (omega arith)
-has_byte-counted (b ∷ bs) zero l = refl
-has_byte-counted (b ∷ bs) (suc n) l =
+pub has_byte_counted : (bs : List ℕ) (n : ℕ) → length bs ≡ longest_line → ltb 0 n ≡ has_byte (counted bs n)
+has_byte_counted [] n l = absurd (omega arith)
+has_byte_counted (b ∷ bs) zero l = refl
+has_byte_counted (b ∷ bs) (suc n) l =
     let t : ltb 0 (suc n) ≡ true = lt-ltb _ _ (omega arith) in
     rw t (cond_both (leb (suc n) longest_line) (Some (b ∷ take n bs)) None (λ v. true ≡ has_byte v) (λ _. refl) (λ _. refl))
 
-pub longer-kept : (line : List ℕ) (b : ℕ) → longer (kept line) b ≡ kept (line ++ (b ∷ []))
-longer-kept line b =
+pub longer_kept : (line : List ℕ) (b : ℕ) → longer (kept line) b ≡ kept (line ++ (b ∷ []))
+longer_kept line b =
     cond_both (leb (length line) longest_line) (Some line) None (λ v. longer v b ≡ kept (line ++ (b ∷ [])))
     (λ _. refl)
     (λ e. let h = leb-false (length line) longest_line e in

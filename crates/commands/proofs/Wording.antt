@@ -6,7 +6,7 @@ use Rattle.std.proofs.lemmas.Bool.{cond_both, and_parts, ltb-true}
 use Rattle.std.specs.Str.{bytes_eq}
 use Rattle.text.specs.Bytes.{space}
 use Rattle.text.specs.Splitting.{Without}
-use Rattle.text.proofs.Options.{none-some, some_same}
+use Rattle.text.proofs.Options.{none_some, some_same}
 use Rattle.text.proofs.Spacing.{three_places, four_places}
 use Rattle.calls.specs.declared.call.Call.{Call}
 use Rattle.calls.specs.declared.call.Call.TheVariants as call
@@ -16,26 +16,26 @@ use Rattle.commands.specs.Words.{word_text, word_among, word_of, arity}
 use Rattle.commands.specs.Commands.{call_from}
 use Rattle.commands.specs.Laws.{call_word, call_numbers}
 
-word_among-is : (xs : List Word) (bs : List ℕ) (x : Word) → word_among xs bs ≡ Some x → bs ≡ word_text x
-word_among-is [] bs x = λ q. none-some x q
-word_among-is (y ∷ ys) bs x =
+word_among_is : (xs : List Word) (bs : List ℕ) (x : Word) → word_among xs bs ≡ Some x → bs ≡ word_text x
+word_among_is [] bs x = λ q. none_some x q
+word_among_is (y ∷ ys) bs x =
     cond_both (bytes_eq bs (word_text y)) (Some y) (word_among ys bs) (λ v. v ≡ Some x → bs ≡ word_text x)
     (λ e q. let s = some_same y x q in rw (← s) ((bytes_eq-Decides bs (word_text y)).0 e))
-    (λ _ q. word_among-is ys bs x q)
+    (λ _ q. word_among_is ys bs x q)
 
 pub word_is : (bs : List ℕ) (x : Word) → word_of bs ≡ Some x → bs ≡ word_text x
-word_is bs x q = word_among-is (Enter ∷ (Link ∷ (Move ∷ (Close ∷ (Advance ∷ (Start ∷ (Reopen ∷ []))))))) bs x q
+word_is bs x q = word_among_is (Enter ∷ (Link ∷ (Move ∷ (Close ∷ (Advance ∷ (Start ∷ (Reopen ∷ []))))))) bs x q
 
 abbrev all_above : ℕ → List ℕ → Bool
 all_above n [] = true
 all_above n (b ∷ bs) = ltb n b && all_above n bs
 
-without_from-above : (n : ℕ) (bs : List ℕ) → all_above n bs ≡ true → Without n bs
-without_from-above n [] e = tt
-without_from-above n (b ∷ bs) e =
+without_from_above : (n : ℕ) (bs : List ℕ) → all_above n bs ≡ true → Without n bs
+without_from_above n [] e = tt
+without_from_above n (b ∷ bs) e =
     let p = and_parts (ltb n b) (all_above n bs) e in
     let l = ltb-true n b p.0 in
-    (λ w. absurd (omega arith), without_from-above n bs p.1)
+    (λ w. absurd (omega arith), without_from_above n bs p.1)
 
 -- what is seen of each word by computing: its text is read as it, is short and has no space, and few numbers follow
 pub record Seen (x : Word) : Type 0 where
@@ -54,7 +54,7 @@ seen Start = record { read_back = refl; short = omega arith; above_space = refl;
 seen Reopen = record { read_back = refl; short = omega arith; above_space = refl; few = omega arith }
 
 pub word_without_space : (x : Word) → Without space (word_text x)
-word_without_space x = without_from-above space (word_text x) (seen x).above_space
+word_without_space x = without_from_above space (word_text x) (seen x).above_space
 
 -- a call by its word and its numbers, and back
 pub call_back : (c : Call) → (call_from (call_word c) (call_numbers c) ≡ c) × (length (call_numbers c) ≡ arity (call_word c))
@@ -80,11 +80,11 @@ one_place [] e = absurd (omega arith)
 one_place (n ∷ []) e = refl
 one_place (n ∷ (m ∷ ms)) e = absurd (omega arith)
 
-pub numbers-back : (x : Word) (ns : List ℕ) → length ns ≡ arity x → call_numbers (call_from x ns) ≡ ns
-numbers-back Enter ns e = sym (four_places ns e)
-numbers-back Link ns e = sym (three_places ns e)
-numbers-back Move ns e = sym (three_places ns e)
-numbers-back Close ns e = sym (nil_from_length ns e)
-numbers-back Advance ns e = sym (one_place ns e)
-numbers-back Start ns e = sym (one_place ns e)
-numbers-back Reopen ns e = sym (nil_from_length ns e)
+pub numbers_back : (x : Word) (ns : List ℕ) → length ns ≡ arity x → call_numbers (call_from x ns) ≡ ns
+numbers_back Enter ns e = sym (four_places ns e)
+numbers_back Link ns e = sym (three_places ns e)
+numbers_back Move ns e = sym (three_places ns e)
+numbers_back Close ns e = sym (nil_from_length ns e)
+numbers_back Advance ns e = sym (one_place ns e)
+numbers_back Start ns e = sym (one_place ns e)
+numbers_back Reopen ns e = sym (nil_from_length ns e)

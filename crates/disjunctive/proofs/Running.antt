@@ -91,15 +91,15 @@ open_same lo lo' end end' (suc n) p q =
     let b : end n ≡ end' n = q n (omega arith) in
     cc
 
-tabulate-same : (f g : ℕ → Window) (n : ℕ) → ((k : ℕ) → k < n → f k ≡ g k) → tabulate f n ≡ tabulate g n
-tabulate-same f g zero p = refl
-tabulate-same f g (suc n) p =
-    let r : tabulate f n ≡ tabulate g n = tabulate-same f g n (λ k h. p k (omega arith)) in
+tabulate_same : (f g : ℕ → Window) (n : ℕ) → ((k : ℕ) → k < n → f k ≡ g k) → tabulate f n ≡ tabulate g n
+tabulate_same f g zero p = refl
+tabulate_same f g (suc n) p =
+    let r : tabulate f n ≡ tabulate g n = tabulate_same f g n (λ k h. p k (omega arith)) in
     let a : f n ≡ g n = p n (omega arith) in
     cc
 
-pub together-same : (lo lo' end end' : ℕ → ℕ) (n : ℕ) → ((k : ℕ) → k < n → lo k ≡ lo' k) → ((k : ℕ) → k < n → end k ≡ end' k) → together lo end n ≡ together lo' end' n
-together-same lo lo' end end' n p q =
+pub together_same : (lo lo' end end' : ℕ → ℕ) (n : ℕ) → ((k : ℕ) → k < n → lo k ≡ lo' k) → ((k : ℕ) → k < n → end k ≡ end' k) → together lo end n ≡ together lo' end' n
+together_same lo lo' end end' n p q =
     let r : all_open lo end n ≡ all_open lo' end' n = open_same lo lo' end end' n p q in
-    let t : tabulate (between lo end) n ≡ tabulate (between lo' end') n = tabulate-same (between lo end) (between lo' end') n (λ k h. window_eq _ _ (p k h) (ap (λ (m : ℕ). m - 1) (q k h))) in
+    let t : tabulate (between lo end) n ≡ tabulate (between lo' end') n = tabulate_same (between lo end) (between lo' end') n (λ k h. window_eq _ _ (p k h) (ap (λ (m : ℕ). m - 1) (q k h))) in
     cc

@@ -22,11 +22,11 @@ use Rattle.disjunctive.specs.Gathering.{gathered, task, tasks_at}
 use Rattle.rule.specs.Windows.{Formed as WellFormed}
 
 module _ (js : List Job) (ws : List Window) (x : ℕ) where
-  pub gathered-yes : (k : ℕ) → (job js k).station ≡ x → gathered js ws x (suc k) ≡ gathered js ws x k ++ (task js ws k ∷ [])
-  gathered-yes k e = cond-true ((job js k).station == x) _ _ (eq-eqb _ _ e)
+  pub gathered_yes : (k : ℕ) → (job js k).station ≡ x → gathered js ws x (suc k) ≡ gathered js ws x k ++ (task js ws k ∷ [])
+  gathered_yes k e = cond-true ((job js k).station == x) _ _ (eq-eqb _ _ e)
 
-  pub gathered-no : (k : ℕ) → ((job js k).station ≢ x) → gathered js ws x (suc k) ≡ gathered js ws x k
-  gathered-no k e = cond-false ((job js k).station == x) _ _ (ne_eqb _ _ e)
+  pub gathered_no : (k : ℕ) → ((job js k).station ≢ x) → gathered js ws x (suc k) ≡ gathered js ws x k
+  gathered_no k e = cond-false ((job js k).station == x) _ _ (ne_eqb _ _ e)
 
   -- what each job at the station adds to what was there
   gathered_by : (P : List Task → Type 0) → P [] → (n : ℕ) → ((k : ℕ) → k < n → (job js k).station ≡ x → P (gathered js ws x k) → P (gathered js ws x k ++ (task js ws k ∷ []))) → P (gathered js ws x n)
@@ -34,8 +34,8 @@ module _ (js : List Job) (ws : List Window) (x : ℕ) where
   gathered_by P z (suc n) f =
       let r : P (gathered js ws x n) = gathered_by P z n (λ k h e. f k (omega arith) e) in
       ⊎_elim
-      (λ (e : (job js n).station ≡ x). subst P (sym (gathered-yes n e)) (f n (omega arith) e r))
-      (λ (e : (job js n).station ≡ x → ⊥). subst P (sym (gathered-no n e)) r)
+      (λ (e : (job js n).station ≡ x). subst P (sym (gathered_yes n e)) (f n (omega arith) e r))
+      (λ (e : (job js n).station ≡ x → ⊥). subst P (sym (gathered_no n e)) r)
       (cases_eq (job js n).station x)
 
   -- what holds of each job at the station holds of each task
@@ -50,16 +50,16 @@ module _ (js : List Job) (ws : List Window) (x : ℕ) where
   gathered_in zero k h e = absurd (omega arith)
   gathered_in (suc n) k h e =
       ⊎_elim
-      (λ (y : k ≡ n). subst (λ (j : ℕ). In (task js ws j) (gathered js ws x (suc n))) (sym y) (subst (In (task js ws n)) (sym (gathered-yes n (ap (λ (j : ℕ). (job js j).station) (sym y) ∙ e))) (in_right (gathered js ws x n) here)))
+      (λ (y : k ≡ n). subst (λ (j : ℕ). In (task js ws j) (gathered js ws x (suc n))) (sym y) (subst (In (task js ws n)) (sym (gathered_yes n (ap (λ (j : ℕ). (job js j).station) (sym y) ∙ e))) (in_right (gathered js ws x n) here)))
       (λ (y : k ≡ n → ⊥).
       let r : In (task js ws k) (gathered js ws x n) = gathered_in n k (omega arith) e in
       cond_both ((job js n).station == x) (gathered js ws x n ++ (task js ws n ∷ [])) (gathered js ws x n) (In (task js ws k)) (λ b. in_left _ r) (λ b. r))
       (cases_eq k n)
 
-  pub gathered-short : (n : ℕ) → length (gathered js ws x n) ≤ n
-  gathered-short zero = omega arith
-  gathered-short (suc n) =
-      let r : length (gathered js ws x n) ≤ n = gathered-short n in
+  pub gathered_short : (n : ℕ) → length (gathered js ws x n) ≤ n
+  gathered_short zero = omega arith
+  gathered_short (suc n) =
+      let r : length (gathered js ws x n) ≤ n = gathered_short n in
       cond_both ((job js n).station == x) (gathered js ws x n ++ (task js ws n ∷ [])) (gathered js ws x n) (λ L. length L ≤ suc n) (λ b. omega (arith, length_push (gathered js ws x n) (task js ws n))) (λ b. omega arith)
 
 -- how far the loop of `gather` has come
@@ -73,11 +73,11 @@ gathering_none js ws x ts h = record { room = h; count = refl; taken = refl }
 
 module _ (js : List Job) (ws : List Window) (x : ℕ) (ts : List Task) (k m : ℕ) (g : Gathering js ws x ts k m) where
   pub gathering_fits : k < most_tasks → m < length ts
-  gathering_fits h = omega (arith, g.count, g.room, gathered-short js ws x k)
+  gathering_fits h = omega (arith, g.count, g.room, gathered_short js ws x k)
 
   pub gathering_yes : (job js k).station ≡ x → k < most_tasks → Gathering js ws x (slice_set ts m (task js ws k)) (k + 1) (m + 1)
   gathering_yes e h =
-      let y : gathered js ws x (suc k) ≡ gathered js ws x k ++ (task js ws k ∷ []) = gathered-yes js ws x k e in
+      let y : gathered js ws x (suc k) ≡ gathered js ws x k ++ (task js ws k ∷ []) = gathered_yes js ws x k e in
       rw (add-one k) (record {
         room = length-set ts m (task js ws k) ∙ g.room;
         count = omega (arith, g.count, length_push (gathered js ws x k) (task js ws k), ap length y);
@@ -86,7 +86,7 @@ module _ (js : List Job) (ws : List Window) (x : ℕ) (ts : List Task) (k m : �
 
   pub gathering_no : ((job js k).station ≢ x) → Gathering js ws x ts (k + 1) m
   gathering_no e =
-      let y : gathered js ws x (suc k) ≡ gathered js ws x k = gathered-no js ws x k e in
+      let y : gathered js ws x (suc k) ≡ gathered js ws x k = gathered_no js ws x k e in
       rw (add-one k) (record { room = g.room; count = g.count ∙ ap length (sym y); taken = g.taken ∙ sym y })
 
 pub gathering_as : (js : List Job) (ws : List Window) (x : ℕ) (ts us : List Task) (k m n : ℕ) → Gathering js ws x ts k m → us ≡ ts → n ≡ m → Gathering js ws x us k n
@@ -96,7 +96,7 @@ gathering_as js ws x ts us k m n g e f = rw (e, f) g
 module _ (js : List Job) (ws : List Window) (entered : AllEntered js) (few : length js ≤ most_jobs) (f : WellFormed (length js) ws) (x : ℕ) where
   pub tasks_formed : Formed (tasks_at js ws x)
   tasks_formed = record {
-    few = omega (arith, gathered-short js ws x (length ws), f.count);
+    few = omega (arith, gathered_short js ws x (length ws), f.count);
     fit = gathered_all js ws x Fit (length ws) (λ k h e.
         let j = entered k (omega (arith, f.count)) in
         record { some = j.1; short = j.2; room = omega (arith, f.ordered k h); ends = omega (arith, f.timely k h, j.2) });

@@ -12,9 +12,9 @@ use Rattle.rule.specs.Windows.{window, Formed, Inside, Single, starts}
 use Rattle.rule.specs.Cuts.{live}
 use Rattle.rule.specs.Bounds.{between, tabulate}
 use Rattle.rule.specs.Laws.{Keeps}
-use Rattle.rule.proofs.Bounding.{together-live, together-keeps, open_at}
-use Rattle.rule.proofs.Tightest.{tightest-own, tightest_all, tightest-link}
-use Rattle.rule.proofs.Setting.{starts-at}
+use Rattle.rule.proofs.Bounding.{together_live, together_keeps, open_at}
+use Rattle.rule.proofs.Tightest.{tightest_own, tightest_all, tightest_link}
+use Rattle.rule.proofs.Setting.{starts_at}
 use Rattle.drying.specs.declared.Drying.{Drying}
 use Rattle.drying.specs.Drying.{dries, AllDry, dry_at, earliest_start, drying_cut}
 
@@ -22,12 +22,12 @@ module _ (r : Drying) (js : List Job) (ws : List Window) (ls : List Link) where
   -- no first start is lowered
   pub earliest_not_sooner : (k : ℕ) → (window ws k).lo ≤ earliest_start r js ws ls k
   earliest_not_sooner k =
-      tightest-own max (λ l. l.to) (dry_at r js ws) (λ j. (window ws j).lo) (λ x. (window ws k).lo ≤ x) (λ x y h. omega arith) ls k (omega arith)
+      tightest_own max (λ l. l.to) (dry_at r js ws) (λ j. (window ws j).lo) (λ x. (window ws k).lo ≤ x) (λ x y h. omega arith) ls k (omega arith)
 
   -- each link has its say
-  pub earliest_after-link : (i : ℕ) → i < length ls → dry_at r js ws (link ls i) ≤ earliest_start r js ws ls (link ls i).to
-  earliest_after-link i h =
-      tightest-link max (λ l. l.to) (dry_at r js ws) (λ j. (window ws j).lo) (λ x. dry_at r js ws (link ls i) ≤ x) (λ x y p. omega arith) (λ x y p. omega arith) ls i h (omega arith)
+  pub earliest_after_link : (i : ℕ) → i < length ls → dry_at r js ws (link ls i) ≤ earliest_start r js ws ls (link ls i).to
+  earliest_after_link i h =
+      tightest_link max (λ l. l.to) (dry_at r js ws) (λ j. (window ws j).lo) (λ x. dry_at r js ws (link ls i) ≤ x) (λ x y p. omega arith) (λ x y p. omega arith) ls i h (omega arith)
 
 -- the windows with all first starts raised
 abbrev pub raised : Drying → List Window → List Job → List Link → List Window
@@ -37,7 +37,7 @@ module _ (r : Drying) (e : Entries) (s : Sound e) (ws : List Window) (f : Formed
   -- no admitted timetable is lost
   pub drying_keeps : (t : List ℕ) → AllDry r e t → Inside t ws → Keeps (drying_cut r e ws) t
   drying_keeps t dry inside =
-      together-keeps _ _ ws t inside.count
+      together_keeps _ _ ws t inside.count
       (λ k h. tightest_all max (λ l. l.to) (dry_at r e.jobs ws) (λ j. (window ws j).lo) (λ x. x ≤ slice_index t k) (λ x y p q. omega arith) e.links k (inside.low k h) (λ i l at.
       let from : (link e.links i).from < length ws = omega (arith, (s.linked i l).0, f.count) in
       cond_both (dries r e.jobs (link e.links i)) _ 0 (λ x. x ≤ slice_index t k)
@@ -50,6 +50,6 @@ module _ (r : Drying) (e : Entries) (s : Sound e) (ws : List Window) (f : Formed
   drying_checks vs single alive i h glued =
       let l = link e.links i in
       let to : l.to < length ws = omega (arith, (s.linked i h).1, f.count) in
-      let still_open = open_at _ _ (length ws) l.to (together-live _ _ (length ws) vs alive).0 to in
+      let still_open = open_at _ _ (length ws) l.to (together_live _ _ (length ws) vs alive).0 to in
       let dry : dry_at r e.jobs ws l ≡ min ((window ws l.from).lo + (job e.jobs l.from).duration + r.minutes) (last_minute + 1) = cond-true _ _ _ glued in
-      omega (arith, still_open, earliest_after-link r e.jobs ws e.links i h, f.timely l.to to, single l.to to, starts-at ws l.from, starts-at ws l.to)
+      omega (arith, still_open, earliest_after_link r e.jobs ws e.links i h, f.timely l.to to, single l.to to, starts_at ws l.from, starts_at ws l.to)

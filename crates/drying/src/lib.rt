@@ -7,7 +7,7 @@ ghost use Rattle.rule.specs.Windows.{window};
 ghost use Rattle.rule.specs.Bounds.{between, tabulate};
 ghost use Rattle.drying.specs.Drying.{AllDry, dry_at, earliest_start, drying_cut};
 ghost use Rattle.std.proofs.Common.{arith};
-ghost use Rattle.rule.proofs.Bounding.{together-within};
+ghost use Rattle.rule.proofs.Bounding.{together_within};
 ghost use Rattle.drying.specs.Links.{earliest_not_sooner, drying_keeps, drying_checks};
 
 use rule::narrowing::Rule;
@@ -65,7 +65,7 @@ impl Rule for Drying {
 
     ghost lawful = { λ r e s.
         record {
-          contracting = λ ws vs f alive. together-within _ _ ws vs alive (λ k h. earliest_not_sooner r e.jobs ws e.links k) (λ k h. omega arith);
+          contracting = λ ws vs f alive. together_within _ _ ws vs alive (λ k h. earliest_not_sooner r e.jobs ws e.links k) (λ k h. omega arith);
           preserving = λ ws t f dry inside. drying_keeps r e s ws f t dry inside;
           checking = λ ws vs f single alive. drying_checks r e s ws f vs single alive;
         } };

@@ -6,7 +6,7 @@ ghost use Rattle.std.proofs.Common.{sym, ◌∙◌};
 ghost use Rattle.std.proofs.lemmas.Bool.{cond-true};
 ghost use Rattle.forbid_all.specs.ForbidAll.{all_single, forbid_all_cut};
 ghost use Rattle.forbid_all.specs.Single.{single_test, unchanged_within};
-ghost use Rattle.rule.specs.Forming.{dead-not-live};
+ghost use Rattle.rule.specs.Forming.{dead_not_live};
 
 use rule::narrowing::Rule;
 use rule::verdict::Verdict;
@@ -36,7 +36,7 @@ impl Rule for ForbidAll {
     ghost cut = { λ _ _ ws. forbid_all_cut ws };
 
     ghost lawful = { λ r e s. record {
-      checking = λ ws vs f single alive. dead-not-live vs (sym (cond-true _ _ _ (single_test ws single)) ∙ alive);
+      checking = λ ws vs f single alive. dead_not_live vs (sym (cond-true _ _ _ (single_test ws single)) ∙ alive);
       contracting = λ ws vs f alive. unchanged_within (all_single ws) ws vs f alive;
       preserving = λ ws t f admitted inside. absurd admitted;
     } };

@@ -16,12 +16,12 @@ use Rattle.house.specs.Hall.{Workable, InTheHallsWords}
 entered_at : (e : Entries) (k : ℕ) → k < length e.jobs → window (entered_windows e) k ≡ entered_window (job e.jobs k)
 entered_at e k h = get_or-map entered_window e.jobs k (job_of 0 0 0 0) (window_of 0 0) h
 
-entered-count : (e : Entries) → length (entered_windows e) ≡ length e.jobs
-entered-count e = length-map e.jobs entered_window
+entered_count : (e : Entries) → length (entered_windows e) ≡ length e.jobs
+entered_count e = length-map e.jobs entered_window
 
 pub to_workable : (e : Entries) (t : List ℕ) → Sound e → Fits (house_admits e) e t → Workable e t
 to_workable e t s f =
-    let n : length (entered_windows e) ≡ length e.jobs = entered-count e in
+    let n : length (entered_windows e) ≡ length e.jobs = entered_count e in
     let a = f.1 in
     record {
       one_each = f.0.count ∙ n;
@@ -37,7 +37,7 @@ to_workable e t s f =
 
 pub from_workable : (e : Entries) (t : List ℕ) → Workable e t → Fits (house_admits e) e t
 from_workable e t w =
-    let n : length (entered_windows e) ≡ length e.jobs = entered-count e in (
+    let n : length (entered_windows e) ≡ length e.jobs = entered_count e in (
       record {
         count = w.one_each ∙ sym n;
         low = λ k l. let h : k < length e.jobs = omega arith in subst (λ (v : Window). v.lo ≤ get_or t k 0) (sym (entered_at e k h)) (w.in_window k h).0;

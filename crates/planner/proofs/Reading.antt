@@ -21,8 +21,8 @@ use Rattle.planner.specs.declared.state.Search.{Search}
 use Rattle.planner.specs.States.{state_as, path_in, state_of}
 use Rattle.planner.specs.Calls.{found_start, start_answer}
 
-pub open_not-impossible : {o : Outcome} → o ≡ Open → o ≡ Impossible → ⊥
-open_not-impossible p q = let z : ◌≡◌ {A = ℕ} 0 1 = cc in omega arith
+pub open_not_impossible : {o : Outcome} → o ≡ Open → o ≡ Impossible → ⊥
+open_not_impossible p q = let z : ◌≡◌ {A = ℕ} 0 1 = cc in omega arith
 
 shut_step : (b : Part) (x : State) (q : List Decision) → (false ≡ is_open x → x ≡ impossible) → false ≡ is_open (by_part b (opened q) x) → by_part b (opened q) x ≡ impossible
 shut_step First x q f e = absurd (both_ways _ (sym e) refl)
@@ -38,12 +38,12 @@ pub shut_path : (p q : List Decision) → false ≡ is_open (backtracked p) → 
 shut_path p q e h = ap length (h ∙ ap path_of (shut p e))
 
 -- where no job is chosen, the starts noted are those of the windows
-pub branched-none : (q : Option ℕ) (ws : List Window) (p : List Decision) (n : ℕ) (ss : List ℕ) → None ≡ q → length ws ≡ n → take (length ws) ss ≡ starts ws → found p (take n ss) ≡ branched q ws p
-branched-none q ws p n ss e h s =
+pub branched_none : (q : Option ℕ) (ws : List Window) (p : List Decision) (n : ℕ) (ss : List ℕ) → None ≡ q → length ws ≡ n → take (length ws) ss ≡ starts ws → found p (take n ss) ≡ branched q ws p
+branched_none q ws p n ss e h s =
     ap (λ (k : ℕ). found p (take k ss)) (sym h) ∙ ap (found p) s ∙ ap (λ (x : Option ℕ). branched x ws p) e
 
-pub found-answer : (n : ℕ) (o : Outcome) (p : List Decision) (ss : List ℕ) (k : ℕ) → o ≡ Found → k < n → ◌≡◌ {A = Result ℕ Refusal} (Ok (get_or ss k 0)) (start_answer n (state_as o p (take n ss)) k)
-found-answer n o p ss k e h =
+pub found_answer : (n : ℕ) (o : Outcome) (p : List Decision) (ss : List ℕ) (k : ℕ) → o ≡ Found → k < n → ◌≡◌ {A = Result ℕ Refusal} (Ok (get_or ss k 0)) (start_answer n (state_as o p (take n ss)) k)
+found_answer n o p ss k e h =
     ap (λ (v : ℕ). Ok v) (sym (get_or-take n ss k 0 h))
     ∙ ap (λ (x : Outcome). found_start (state_as x p (take n ss)) k) (sym e)
     ∙ sym (cond-false _ _ _ (lt-leb n k h))
@@ -69,10 +69,10 @@ settled_made f Open p t (suc k) n = absurd (n refl)
 settled_made f Found p t (suc k) n = refl
 settled_made f Impossible p t (suc k) n = refl
 
-pub outcome-read : (o : Outcome) (p : List Decision) (t : List ℕ) → o ≡ outcome_of (state_as o p t)
-outcome-read Open p t = refl
-outcome-read Found p t = refl
-outcome-read Impossible p t = refl
+pub outcome_read : (o : Outcome) (p : List Decision) (t : List ℕ) → o ≡ outcome_of (state_as o p t)
+outcome_read Open p t = refl
+outcome_read Found p t = refl
+outcome_read Impossible p t = refl
 
 path_as : (o : Outcome) (p : List Decision) (t : List ℕ) → (o ≡ Impossible → length p ≡ 0) → p ≡ path_of (state_as o p t)
 path_as Open p t f = refl

@@ -31,8 +31,8 @@ module _ {P : Type 0} (cut : P → Entries → List Window → Cut) {p q : P} {e
       ap (λ (y : ℕ × ℕ). y.1) (ok_same (a.answer ∙ cond-false _ _ _ a.in_range))
       ∙ ap (looks_made (one_look (cut q d) d) g) a.start
 
-  pub planned-told : (room : ℕ) → ltb room (length e.jobs) ≡ false → planned c x m ≡ plan_sheet (cut p) g room e
-  planned-told room fits =
+  pub planned_told : (room : ℕ) → ltb room (length e.jobs) ≡ false → planned c x m ≡ plan_sheet (cut p) g room e
+  planned_told room fits =
       let f = one_look (cut q d) d in
       let here : planned c x m ≡ planned d (after_looks f g (opened [])) (looks_made f g (opened [])) =
       ap (λ (z : Entries). planned z x m) a.kept_sheet

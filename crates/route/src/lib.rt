@@ -6,8 +6,8 @@ ghost use Rattle.sheet.specs.Sound.{AllEntered, AllLinked};
 ghost use Rattle.rule.specs.Windows.{formed};
 ghost use Rattle.rule.specs.Bounds.{between, tabulate};
 ghost use Rattle.route.specs.Route.{AllHold, earliest_start, past_latest_start, route_cut};
-ghost use Rattle.rule.proofs.Bounding.{together-within};
-ghost use Rattle.route.specs.Links.{earliest_not_sooner, latest_not-later, route_keeps, route_checks};
+ghost use Rattle.rule.proofs.Bounding.{together_within};
+ghost use Rattle.route.specs.Links.{earliest_not_sooner, latest_not_later, route_keeps, route_checks};
 
 use rule::narrowing::Rule;
 use rule::verdict::Verdict;
@@ -49,7 +49,7 @@ impl Rule for Route {
 
     ghost lawful = { λ r e s.
         record {
-          contracting = λ ws vs f alive. together-within _ _ ws vs alive (λ k h. earliest_not_sooner e.jobs ws e.links k) (λ k h. latest_not-later e.jobs ws e.links k);
+          contracting = λ ws vs f alive. together_within _ _ ws vs alive (λ k h. earliest_not_sooner e.jobs ws e.links k) (λ k h. latest_not_later e.jobs ws e.links k);
           preserving = λ ws t f holds inside. route_keeps e s ws f t holds inside;
           checking = λ ws vs f single alive. route_checks e s ws f vs single alive;
         } };

@@ -8,21 +8,21 @@ use Rattle.rule.specs.Windows.{window, window_of, Within}
 use Rattle.rule.specs.Cuts.{Cut, dead, live}
 use Rattle.rule.specs.Bounds.{between, tabulate, all_open, together}
 use Rattle.rule.specs.Laws.{Keeps}
-use Rattle.rule.specs.Forming.{dead-not-live}
+use Rattle.rule.specs.Forming.{dead_not_live}
 
-pub tabulate-length : (f : ℕ → Window) (n : ℕ) → length (tabulate f n) ≡ n
-tabulate-length f zero = refl
-tabulate-length f (suc n) = length_push (tabulate f n) (f n) ∙ (let e : length (tabulate f n) ≡ n = tabulate-length f n in omega arith)
+pub tabulate_length : (f : ℕ → Window) (n : ℕ) → length (tabulate f n) ≡ n
+tabulate_length f zero = refl
+tabulate_length f (suc n) = length_push (tabulate f n) (f n) ∙ (let e : length (tabulate f n) ≡ n = tabulate_length f n in omega arith)
 
-pub tabulate-at : (f : ℕ → Window) (n k : ℕ) → k < n → window (tabulate f n) k ≡ f k
-tabulate-at f zero k h = absurd (omega arith)
-tabulate-at f (suc n) k h =
-    let e : length (tabulate f n) ≡ n = tabulate-length f n in
+pub tabulate_at : (f : ℕ → Window) (n k : ℕ) → k < n → window (tabulate f n) k ≡ f k
+tabulate_at f zero k h = absurd (omega arith)
+tabulate_at f (suc n) k h =
+    let e : length (tabulate f n) ≡ n = tabulate_length f n in
     ⊎_elim
     (λ (q : k ≡ n). get_or_push (tabulate f n) (f n) (window_of 0 0) k (e ∙ sym q) ∙ ap f (sym q))
     (λ (q : k ≡ n → ⊥). let l : k < n = omega arith in
     let m : k < length (tabulate f n) = omega arith in
-    get_or-append (tabulate f n) (f n ∷ []) (window_of 0 0) k m ∙ tabulate-at f n k l)
+    get_or-append (tabulate f n) (f n ∷ []) (window_of 0 0) k m ∙ tabulate_at f n k l)
     (cases_eq k n)
 
 pub open_at : (lo end : ℕ → ℕ) (n k : ℕ) → all_open lo end n ≡ true → k < n → lo k < end k
@@ -48,34 +48,34 @@ open_from lo end (suc n) f = and_from _ _ (lt-ltb _ _ (f n (omega arith))) (open
 pub open_more : (lo end : ℕ → ℕ) (n : ℕ) → all_open lo end n ≡ true → lo n < end n → all_open lo end (n + 1) ≡ true
 open_more lo end n e h = rw add-one (and_from _ _ (lt-ltb _ _ h) e)
 
-pub together-live : (lo end : ℕ → ℕ) (n : ℕ) (vs : List Window) → together lo end n ≡ live vs → (all_open lo end n ≡ true) × (tabulate (between lo end) n ≡ vs)
-together-live lo end n vs e =
+pub together_live : (lo end : ℕ → ℕ) (n : ℕ) (vs : List Window) → together lo end n ≡ live vs → (all_open lo end n ≡ true) × (tabulate (between lo end) n ≡ vs)
+together_live lo end n vs e =
     ⊎_elim
     (λ (t : all_open lo end n ≡ true). let q : live (tabulate (between lo end) n) ≡ live vs = sym (cond-true _ _ _ t) ∙ e in (t, cc))
-    (λ (t : all_open lo end n ≡ false). absurd (dead-not-live vs (sym (cond-false _ _ _ t) ∙ e)))
+    (λ (t : all_open lo end n ≡ false). absurd (dead_not_live vs (sym (cond-false _ _ _ t) ∙ e)))
     (cases_Bool (all_open lo end n))
 
 module _ (lo end : ℕ → ℕ) (ws : List Window) where
-  tabulate-within : all_open lo end (length ws) ≡ true → ((k : ℕ) → k < length ws → (window ws k).lo ≤ lo k) → ((k : ℕ) → k < length ws → end k ≤ (window ws k).hi + 1) → Within (tabulate (between lo end) (length ws)) ws
-  tabulate-within o a b =
-      let at : (k : ℕ) → k < length ws → window (tabulate (between lo end) (length ws)) k ≡ between lo end k = λ k h. tabulate-at (between lo end) (length ws) k h in
+  tabulate_within : all_open lo end (length ws) ≡ true → ((k : ℕ) → k < length ws → (window ws k).lo ≤ lo k) → ((k : ℕ) → k < length ws → end k ≤ (window ws k).hi + 1) → Within (tabulate (between lo end) (length ws)) ws
+  tabulate_within o a b =
+      let at : (k : ℕ) → k < length ws → window (tabulate (between lo end) (length ws)) k ≡ between lo end k = λ k h. tabulate_at (between lo end) (length ws) k h in
       record {
-        count = tabulate-length (between lo end) (length ws);
+        count = tabulate_length (between lo end) (length ws);
         low = λ k h. subst (λ (w : Window). (window ws k).lo ≤ w.lo) (sym (at k h)) (a k h);
         ordered = λ k h. subst (λ (w : Window). w.lo ≤ w.hi) (sym (at k h)) (omega (arith, open_at lo end (length ws) k o h));
         high = λ k h. subst (λ (w : Window). w.hi ≤ (window ws k).hi) (sym (at k h)) (omega (arith, b k h));
       }
 
-  pub together-within : (vs : List Window) → together lo end (length ws) ≡ live vs → ((k : ℕ) → k < length ws → (window ws k).lo ≤ lo k) → ((k : ℕ) → k < length ws → end k ≤ (window ws k).hi + 1) → Within vs ws
-  together-within vs e a b =
-      let d = together-live lo end (length ws) vs e in
-      subst (λ (us : List Window). Within us ws) d.1 (tabulate-within d.0 a b)
+  pub together_within : (vs : List Window) → together lo end (length ws) ≡ live vs → ((k : ℕ) → k < length ws → (window ws k).lo ≤ lo k) → ((k : ℕ) → k < length ws → end k ≤ (window ws k).hi + 1) → Within vs ws
+  together_within vs e a b =
+      let d = together_live lo end (length ws) vs e in
+      subst (λ (us : List Window). Within us ws) d.1 (tabulate_within d.0 a b)
 
-  pub together-keeps : (t : List ℕ) → length t ≡ length ws → ((k : ℕ) → k < length ws → lo k ≤ get_or t k 0) → ((k : ℕ) → k < length ws → get_or t k 0 < end k) → Keeps (together lo end (length ws)) t
-  together-keeps t n a b =
+  pub together_keeps : (t : List ℕ) → length t ≡ length ws → ((k : ℕ) → k < length ws → lo k ≤ get_or t k 0) → ((k : ℕ) → k < length ws → get_or t k 0 < end k) → Keeps (together lo end (length ws)) t
+  together_keeps t n a b =
       let o : all_open lo end (length ws) ≡ true = open_from lo end (length ws) (λ k h. omega (arith, a k h, b k h)) in
-      let at : (k : ℕ) → k < length ws → window (tabulate (between lo end) (length ws)) k ≡ between lo end k = λ k h. tabulate-at (between lo end) (length ws) k h in
-      let e : length (tabulate (between lo end) (length ws)) ≡ length ws = tabulate-length (between lo end) (length ws) in
+      let at : (k : ℕ) → k < length ws → window (tabulate (between lo end) (length ws)) k ≡ between lo end k = λ k h. tabulate_at (between lo end) (length ws) k h in
+      let e : length (tabulate (between lo end) (length ws)) ≡ length ws = tabulate_length (between lo end) (length ws) in
       subst (λ (c : Cut). Keeps c t) (sym (cond-true _ _ _ o)) (record {
         count = n ∙ sym e;
         low = λ k h. let l : k < length ws = omega arith in subst (λ (w : Window). w.lo ≤ get_or t k 0) (sym (at k l)) (a k l);
@@ -87,5 +87,5 @@ tabulate_more f xs i w h e q =
     let more : tabulate f (i + 1) ≡ tabulate f i ++ (f i ∷ []) = rw add-one in
     take_more_set xs i w h ∙ ap (λ (ys : List Window). ys ++ (w ∷ [])) e ∙ ap (λ (x : Window). tabulate f i ++ (x ∷ [])) q ∙ sym more
 
-pub together-dead : (lo end : ℕ → ℕ) (n k : ℕ) → k < n → end k ≤ lo k → together lo end n ≡ dead
-together-dead lo end n k h l = cond-false _ _ _ (open_stop lo end n k h l)
+pub together_dead : (lo end : ℕ → ℕ) (n k : ℕ) → k < n → end k ≤ lo k → together lo end n ≡ dead
+together_dead lo end n k h l = cond-false _ _ _ (open_stop lo end n k h l)

@@ -10,12 +10,12 @@ use Rattle.rule.specs.Windows.{window, window_of, formed, Formed, Within, starts
 use Rattle.rule.specs.Cuts.{dead, live}
 use Rattle.rule.specs.Bounds.{between, tabulate, all_open, together}
 use Rattle.rule.specs.Tightest.{tightest}
-use Rattle.rule.specs.Forming.{formed_fact, formed_test, within-formed, window_eq, windows_eq}
-use Rattle.rule.proofs.Bounding.{tabulate-length, tabulate-at, open_from, together-within}
+use Rattle.rule.specs.Forming.{formed_fact, formed_test, within_formed, window_eq, windows_eq}
+use Rattle.rule.proofs.Bounding.{tabulate_length, tabulate_at, open_from, together_within}
 use Rattle.rule.proofs.Tightest.{tightest_more}
 
-pub starts-at : (ws : List Window) (k : ℕ) → get_or (starts ws) k 0 ≡ (window ws k).lo
-starts-at ws k = get_or-map (λ (w : Window). w.lo) ws k (window_of 0 0)
+pub starts_at : (ws : List Window) (k : ℕ) → get_or (starts ws) k 0 ≡ (window ws k).lo
+starts_at ws k = get_or-map (λ (w : Window). w.lo) ws k (window_of 0 0)
 
 -- the windows vs are ws with these bounds; a last start below zero is put down as 0
 pub record Bounded (lo end : ℕ → ℕ) (ws vs : List Window) : Type 0 where
@@ -32,9 +32,9 @@ bounded_copy ws vs e = record {
 
 pub bounded_all : (lo end : ℕ → ℕ) (ws vs : List Window) → Bounded lo end ws vs → vs ≡ tabulate (between lo end) (length ws)
 bounded_all lo end ws vs b =
-    windows_eq _ _ (b.count ∙ sym (tabulate-length (between lo end) (length ws))) (λ k h.
-    let l : k < length ws = omega (arith, tabulate-length (between lo end) (length ws)) in
-    window_eq _ _ (b.low k l) (b.high k l) ∙ sym (tabulate-at (between lo end) (length ws) k l))
+    windows_eq _ _ (b.count ∙ sym (tabulate_length (between lo end) (length ws))) (λ k h.
+    let l : k < length ws = omega (arith, tabulate_length (between lo end) (length ws)) in
+    window_eq _ _ (b.low k l) (b.high k l) ∙ sym (tabulate_at (between lo end) (length ws) k l))
 
 window_written : (vs : List Window) (j : ℕ) (w : Window) (k : ℕ) → j < length vs → window (set vs j w) k ≡ cond (eqb j k) w (window vs k)
 window_written vs j w k h =
@@ -94,23 +94,23 @@ pub as_entered : (f : List Job → List Link → List Window) (e : Entries) (js 
 as_entered f e js ls vs p q made = made ∙ ap (λ (xs : List Job). f xs ls) p ∙ ap (f e.jobs) q
 
 -- a copy that was tested for being well formed
-module _ (lo end : ℕ → ℕ) (ws vs : List Window) (set-in : vs ≡ tabulate (between lo end) (length ws)) where
+module _ (lo end : ℕ → ℕ) (ws vs : List Window) (set_in : vs ≡ tabulate (between lo end) (length ws)) where
   pub passed_ordered : formed (length ws) vs ≡ true → (k : ℕ) → k < length ws → lo k ≤ end k - 1
   passed_ordered t k h =
       let f = formed_fact vs t in
-      let w : window vs k ≡ between lo end k = ap (λ (us : List Window). window us k) set-in ∙ tabulate-at (between lo end) (length ws) k h in
+      let w : window vs k ≡ between lo end k = ap (λ (us : List Window). window us k) set_in ∙ tabulate_at (between lo end) (length ws) k h in
       subst (λ (v : Window). v.lo ≤ v.hi) w (f.ordered k (omega (arith, f.count)))
 
   -- it is what the cut leaves, unless a last start below zero was put down as 0
   pub together_passed : formed (length ws) vs ≡ true → ((k : ℕ) → k < length ws → 0 < end k) → together lo end (length ws) ≡ live vs
   together_passed t above =
-      cond-true _ _ _ (open_from lo end (length ws) (λ k h. omega (arith, passed_ordered t k h, above k h))) ∙ ap live (sym set-in)
+      cond-true _ _ _ (open_from lo end (length ws) (λ k h. omega (arith, passed_ordered t k h, above k h))) ∙ ap live (sym set_in)
 
   pub together_failed : {n : ℕ} → Formed n ws → ((k : ℕ) → (window ws k).lo ≤ lo k) → ((k : ℕ) → end k ≤ (window ws k).hi + 1) → formed (length ws) vs ≡ false → together lo end (length ws) ≡ dead
   together_failed f low high t =
       ⊎_elim
       (λ (o : all_open lo end (length ws) ≡ true).
-      let w : Within vs ws = together-within lo end ws vs (cond-true _ _ _ o ∙ ap live (sym set-in)) (λ k h. low k) (λ k h. high k) in
-      absurd (both_ways _ t (formed_test vs (within-formed vs ws (record { count = refl; ordered = f.ordered; timely = f.timely }) w))))
+      let w : Within vs ws = together_within lo end ws vs (cond-true _ _ _ o ∙ ap live (sym set_in)) (λ k h. low k) (λ k h. high k) in
+      absurd (both_ways _ t (formed_test vs (within_formed vs ws (record { count = refl; ordered = f.ordered; timely = f.timely }) w))))
       (λ (o : all_open lo end (length ws) ≡ false). cond-false _ _ _ o)
       (cases_Bool (all_open lo end (length ws)))

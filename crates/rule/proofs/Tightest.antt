@@ -8,10 +8,10 @@ use Rattle.rule.specs.Tightest.{tightest}
 
 module _ (tighter : ℕ → ℕ → ℕ) (at bound : Link → ℕ) (own : ℕ → ℕ) where
   -- what the job's own bound has, and no other bound takes away
-  pub tightest-own : (P : ℕ → Type 0) → ((x y : ℕ) → P y → P (tighter x y)) → (ls : List Link) (k : ℕ) → P (own k) → P (tightest tighter at bound own ls k)
-  tightest-own P keep [] k p = p
-  tightest-own P keep (l ∷ ls) k p =
-      cond_both (eqb (at l) k) _ _ P (λ e. keep _ _ (tightest-own P keep ls k p)) (λ e. tightest-own P keep ls k p)
+  pub tightest_own : (P : ℕ → Type 0) → ((x y : ℕ) → P y → P (tighter x y)) → (ls : List Link) (k : ℕ) → P (own k) → P (tightest tighter at bound own ls k)
+  tightest_own P keep [] k p = p
+  tightest_own P keep (l ∷ ls) k p =
+      cond_both (eqb (at l) k) _ _ P (λ e. keep _ _ (tightest_own P keep ls k p)) (λ e. tightest_own P keep ls k p)
 
   -- what all the bounds at the job have
   pub tightest_all : (P : ℕ → Type 0) → ((x y : ℕ) → P x → P y → P (tighter x y)) → (ls : List Link) (k : ℕ) → P (own k) → ((i : ℕ) → i < length ls → at (link ls i) ≡ k → P (bound (link ls i))) → P (tightest tighter at bound own ls k)
@@ -21,11 +21,11 @@ module _ (tighter : ℕ → ℕ → ℕ) (at bound : Link → ℕ) (own : ℕ �
       cond_both (eqb (at l) k) _ _ P (λ e. join _ _ (each 0 (omega arith) (eqb-true _ _ e)) rest) (λ e. rest)
 
   -- what one link's bound has, and no other bound takes away
-  pub tightest-link : (P : ℕ → Type 0) → ((x y : ℕ) → P x → P (tighter x y)) → ((x y : ℕ) → P y → P (tighter x y)) → (ls : List Link) (i : ℕ) → i < length ls → P (bound (link ls i)) → P (tightest tighter at bound own ls (at (link ls i)))
-  tightest-link P left right [] i h p = absurd (not-suc-le-zero h)
-  tightest-link P left right (l ∷ ls) zero h p = subst P (sym (cond-true _ _ _ (eq-eqb (at l) (at l) refl))) (left _ _ p)
-  tightest-link P left right (l ∷ ls) (suc i) h p =
-      let rest : P (tightest tighter at bound own ls (at (link ls i))) = tightest-link P left right ls i (le_of_suc-le-suc h) p in
+  pub tightest_link : (P : ℕ → Type 0) → ((x y : ℕ) → P x → P (tighter x y)) → ((x y : ℕ) → P y → P (tighter x y)) → (ls : List Link) (i : ℕ) → i < length ls → P (bound (link ls i)) → P (tightest tighter at bound own ls (at (link ls i)))
+  tightest_link P left right [] i h p = absurd (not-suc-le-zero h)
+  tightest_link P left right (l ∷ ls) zero h p = subst P (sym (cond-true _ _ _ (eq-eqb (at l) (at l) refl))) (left _ _ p)
+  tightest_link P left right (l ∷ ls) (suc i) h p =
+      let rest : P (tightest tighter at bound own ls (at (link ls i))) = tightest_link P left right ls i (le_of_suc-le-suc h) p in
       cond_both (eqb (at l) (at (link ls i))) _ _ P (λ e. right _ _ rest) (λ e. rest)
 
   module _ (swap : (x y z : ℕ) → tighter x (tighter y z) ≡ tighter y (tighter x z)) where

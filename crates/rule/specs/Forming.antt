@@ -9,27 +9,27 @@ use Rattle.rule.specs.Cuts.{dead, live}
 pub fine_step : (ws : List Window) (i : ℕ) → i < length ws → all_fine (drop i ws) ≡ (fine (window ws i) && all_fine (drop (i + 1) ws))
 fine_step ws i h = rw add-one (ap all_fine (drop-cons ws i (window_of 0 0) h))
 
-pub fine-at : (ws : List Window) (k : ℕ) → all_fine ws ≡ true → k < length ws → fine (window ws k) ≡ true
-fine-at [] k e h = absurd (not-suc-le-zero h)
-fine-at (w ∷ ws) zero e h = (and_parts _ _ e).0
-fine-at (w ∷ ws) (suc k) e h = fine-at ws k (and_parts _ _ e).1 (le_of_suc-le-suc h)
+pub fine_at : (ws : List Window) (k : ℕ) → all_fine ws ≡ true → k < length ws → fine (window ws k) ≡ true
+fine_at [] k e h = absurd (not-suc-le-zero h)
+fine_at (w ∷ ws) zero e h = (and_parts _ _ e).0
+fine_at (w ∷ ws) (suc k) e h = fine_at ws k (and_parts _ _ e).1 (le_of_suc-le-suc h)
 
-pub all_fine-from : (ws : List Window) → ((k : ℕ) → k < length ws → fine (window ws k) ≡ true) → all_fine ws ≡ true
-all_fine-from [] f = refl
-all_fine-from (w ∷ ws) f = and_from _ _ (f 0 (omega arith)) (all_fine-from ws (λ k h. f (suc k) (omega arith)))
+pub all_fine_from : (ws : List Window) → ((k : ℕ) → k < length ws → fine (window ws k) ≡ true) → all_fine ws ≡ true
+all_fine_from [] f = refl
+all_fine_from (w ∷ ws) f = and_from _ _ (f 0 (omega arith)) (all_fine_from ws (λ k h. f (suc k) (omega arith)))
 
 pub formed_fact : {n : ℕ} (ws : List Window) → formed n ws ≡ true → Formed n ws
 formed_fact ws h =
     let p = and_parts _ _ h in
     record {
       count = eqb-true _ _ p.0;
-      ordered = λ k lt. leb-true _ _ (and_parts _ _ (fine-at ws k p.1 lt)).0;
-      timely = λ k lt. leb-true _ _ (and_parts _ _ (fine-at ws k p.1 lt)).1;
+      ordered = λ k lt. leb-true _ _ (and_parts _ _ (fine_at ws k p.1 lt)).0;
+      timely = λ k lt. leb-true _ _ (and_parts _ _ (fine_at ws k p.1 lt)).1;
     }
 
 pub formed_test : {n : ℕ} (ws : List Window) → Formed n ws → formed n ws ≡ true
 formed_test ws f =
-    and_from _ _ (eq-eqb _ _ f.count) (all_fine-from ws (λ k h. and_from _ _ (le-leb _ _ (f.ordered k h)) (le-leb _ _ (f.timely k h))))
+    and_from _ _ (eq-eqb _ _ f.count) (all_fine_from ws (λ k h. and_from _ _ (le-leb _ _ (f.ordered k h)) (le-leb _ _ (f.timely k h))))
 
 pub still_within : {n : ℕ} (ws : List Window) → Formed n ws → Within ws ws
 still_within ws f = record {
@@ -39,15 +39,15 @@ still_within ws f = record {
   high = λ k h. omega arith;
 }
 
-pub within-formed : {n : ℕ} (vs ws : List Window) → Formed n ws → Within vs ws → Formed n vs
-within-formed vs ws f w = record {
+pub within_formed : {n : ℕ} (vs ws : List Window) → Formed n ws → Within vs ws → Formed n vs
+within_formed vs ws f w = record {
   count = w.count ∙ f.count;
   ordered = λ k h. let l : k < length ws = omega arith in w.ordered k l;
   timely = λ k h. let l : k < length ws = omega arith in omega (arith, w.high k l, f.timely k l);
 }
 
-pub within-within : (us vs ws : List Window) → Within us vs → Within vs ws → Within us ws
-within-within us vs ws p q = record {
+pub within_within : (us vs ws : List Window) → Within us vs → Within vs ws → Within us ws
+within_within us vs ws p q = record {
   count = p.count ∙ q.count;
   low = λ k h. let l : k < length vs = omega (arith, q.count) in omega (arith, p.low k l, q.low k h);
   ordered = λ k h. let l : k < length vs = omega (arith, q.count) in p.ordered k l;
@@ -81,5 +81,5 @@ within_single vs ws w s =
     windows_eq vs ws w.count (λ k h.
     window_eq _ _ (omega (arith, w.low k h, w.ordered k h, w.high k h, s k h)) (omega (arith, w.low k h, w.ordered k h, w.high k h, s k h)))
 
-pub dead-not-live : (vs : List Window) → dead ≢ live vs
-dead-not-live vs e = let z : ◌≡◌ {A = ℕ} 0 1 = cc in omega arith
+pub dead_not_live : (vs : List Window) → dead ≢ live vs
+dead_not_live vs e = let z : ◌≡◌ {A = ℕ} 0 1 = cc in omega arith

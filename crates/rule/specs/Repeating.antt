@@ -8,8 +8,8 @@ use Rattle.rule.specs.declared.standstill.Round.TheVariants.{Still, Narrowed}
 use Rattle.rule.specs.Cuts.{Cut, dead, live, left, then_cut, width, repeated_for, repeated}
 use Rattle.rule.specs.Rounds.{round_of}
 use Rattle.rule.specs.Laws.{Keeps, Repeats, ends_dead, ends_still, goes_on}
-use Rattle.rule.specs.Forming.{formed_fact, formed_test, within-formed, within-within, still_within, window_eq}
-use Rattle.rule.specs.Piling.{then-live, then_keeps}
+use Rattle.rule.specs.Forming.{formed_fact, formed_test, within_formed, within_within, still_within, window_eq}
+use Rattle.rule.specs.Piling.{then_live, then_keeps}
 
 within_tail : (v w : Window) (vs ws : List Window) → Within (v ∷ vs) (w ∷ ws) → Within vs ws
 within_tail v w vs ws p = record {
@@ -74,50 +74,50 @@ same_itself (w ∷ ws) = and_from _ _ (and_from _ _ (eq-eqb w.lo w.lo refl) (eq-
 pub same_false : (vs ws : List Window) → same vs ws ≡ false → vs ≢ ws
 same_false vs ws t e = both_ways _ t (subst (λ (us : List Window). same us ws ≡ true) (sym e) (same_itself ws))
 
-narrowed-live : (c : Cut) (ws : List Window) → round_of c ws ≡ Narrowed → (c ≡ live (left c ws)) × (same (left c ws) ws ≡ false)
-narrowed-live dead ws e = let z : ◌≡◌ {A = ℕ} 0 1 = cc in absurd (omega arith)
-narrowed-live (live vs) ws e =
+narrowed_live : (c : Cut) (ws : List Window) → round_of c ws ≡ Narrowed → (c ≡ live (left c ws)) × (same (left c ws) ws ≡ false)
+narrowed_live dead ws e = let z : ◌≡◌ {A = ℕ} 0 1 = cc in absurd (omega arith)
+narrowed_live (live vs) ws e =
     ⊎_elim
     (λ (t : same vs ws ≡ true). let q : Still ≡ Narrowed = sym (cond-true _ _ _ t) ∙ e in let z : ◌≡◌ {A = ℕ} 0 1 = cc in absurd (omega arith))
     (λ (t : same vs ws ≡ false). (refl, t))
     (cases_Bool (same vs ws))
 
 module _ (f : List Window → Cut) (jobs : ℕ) (one : (ws vs : List Window) → Formed jobs ws → f ws ≡ live vs → Within vs ws) where
-  pub repeated-within : (n : ℕ) (ws us : List Window) → Formed jobs ws → repeated_for f n ws ≡ live us → Within us ws
-  repeated-within zero ws us a e = subst (λ (x : List Window). Within x ws) (live_same ws us e) (still_within ws a)
-  repeated-within (suc n) ws us a e =
-      let d = then-live (f ws) _ us e in
+  pub repeated_within : (n : ℕ) (ws us : List Window) → Formed jobs ws → repeated_for f n ws ≡ live us → Within us ws
+  repeated_within zero ws us a e = subst (λ (x : List Window). Within x ws) (live_same ws us e) (still_within ws a)
+  repeated_within (suc n) ws us a e =
+      let d = then_live (f ws) _ us e in
       let vs = d.0 in
       let w : Within vs ws = one ws vs a d.1 in
       ⊎_elim
       (λ (t : same vs ws ≡ true). subst (λ (x : List Window). Within x ws) (live_same vs us (sym (cond-true _ _ _ t) ∙ d.2)) w)
-      (λ (t : same vs ws ≡ false). within-within us vs ws (repeated-within n vs us (within-formed vs ws a w) (sym (cond-false _ _ _ t) ∙ d.2)) w)
+      (λ (t : same vs ws ≡ false). within_within us vs ws (repeated_within n vs us (within_formed vs ws a w) (sym (cond-false _ _ _ t) ∙ d.2)) w)
       (cases_Bool (same vs ws))
 
   -- enough is enough
-  pub repeated-enough : (n m : ℕ) (ws : List Window) → Formed jobs ws → width ws < n → width ws < m → repeated_for f n ws ≡ repeated_for f m ws
-  repeated-enough zero m ws a p q = absurd (omega arith)
-  repeated-enough (suc n) zero ws a p q = absurd (omega arith)
-  repeated-enough (suc n) (suc m) ws a p q =
+  pub repeated_enough : (n m : ℕ) (ws : List Window) → Formed jobs ws → width ws < n → width ws < m → repeated_for f n ws ≡ repeated_for f m ws
+  repeated_enough zero m ws a p q = absurd (omega arith)
+  repeated_enough (suc n) zero ws a p q = absurd (omega arith)
+  repeated_enough (suc n) (suc m) ws a p q =
       then_agree (f ws) _ _ (λ vs e. cond_agree (same vs ws) _ _ _ (λ t.
       let w = one ws vs a e in
       let l : width vs < width ws = width_less vs ws w t in
-      repeated-enough n m vs (within-formed vs ws a w) (omega arith) (omega arith)))
+      repeated_enough n m vs (within_formed vs ws a w) (omega arith) (omega arith)))
 
   -- one turn that changed something
   pub repeated_again : (ws vs : List Window) → Formed jobs ws → f ws ≡ live vs → same vs ws ≡ false → repeated f ws ≡ repeated f vs
   repeated_again ws vs a e t =
       let w = one ws vs a e in
       let l : width vs < width ws = width_less vs ws w t in
-      ap (λ (c : Cut). then_cut c (λ us. cond (same us ws) (live us) (repeated_for f (width ws) us))) e ∙ cond-false _ _ _ t ∙ repeated-enough (width ws) (suc (width vs)) vs (within-formed vs ws a w) l (omega arith)
+      ap (λ (c : Cut). then_cut c (λ us. cond (same us ws) (live us) (repeated_for f (width ws) us))) e ∙ cond-false _ _ _ t ∙ repeated_enough (width ws) (suc (width vs)) vs (within_formed vs ws a w) l (omega arith)
 
-  pub repeated-keeps : (t : List ℕ) → ((ws : List Window) → Formed jobs ws → Inside t ws → Keeps (f ws) t) → (n : ℕ) (ws : List Window) → Formed jobs ws → Inside t ws → Keeps (repeated_for f n ws) t
-  repeated-keeps t k zero ws a i = i
-  repeated-keeps t k (suc n) ws a i =
+  pub repeated_keeps : (t : List ℕ) → ((ws : List Window) → Formed jobs ws → Inside t ws → Keeps (f ws) t) → (n : ℕ) (ws : List Window) → Formed jobs ws → Inside t ws → Keeps (repeated_for f n ws) t
+  repeated_keeps t k zero ws a i = i
+  repeated_keeps t k (suc n) ws a i =
       then_keeps (f ws) _ t (k ws a i) (λ vs e j.
       ⊎_elim
       (λ (x : same vs ws ≡ true). subst (λ (c : Cut). Keeps c t) (sym (cond-true _ _ _ x)) j)
-      (λ (x : same vs ws ≡ false). subst (λ (c : Cut). Keeps c t) (sym (cond-false _ _ _ x)) (repeated-keeps t k n vs (within-formed vs ws a (one ws vs a e)) j))
+      (λ (x : same vs ws ≡ false). subst (λ (c : Cut). Keeps c t) (sym (cond-false _ _ _ x)) (repeated_keeps t k n vs (within_formed vs ws a (one ws vs a e)) j))
       (cases_Bool (same vs ws)))
 
   -- a round that changes something: what it leaves is well formed, narrower, and repeating from it comes to the same
@@ -128,13 +128,13 @@ module _ (f : List Window → Cut) (jobs : ℕ) (one : (ws vs : List Window) →
 
   pub narrowing_round : (ws vs : List Window) → formed jobs ws ≡ true → round_of (f ws) ws ≡ Narrowed → vs ≡ left (f ws) ws → Round ws vs
   narrowing_round ws vs h e q =
-      let d = narrowed-live (f ws) ws e in
+      let d = narrowed_live (f ws) ws e in
       let l : f ws ≡ live vs = d.0 ∙ ap live (sym q) in
       let t : same vs ws ≡ false = ap (λ (us : List Window). same us ws) q ∙ d.1 in
       let a = formed_fact ws h in
       let w = one ws vs a l in
       record {
-        well_formed = formed_test vs (within-formed vs ws a w);
+        well_formed = formed_test vs (within_formed vs ws a w);
         narrower = width_less vs ws w t;
         goes_on = sym (repeated_again ws vs a l t);
       }
@@ -147,7 +147,7 @@ module _ (f : List Window → Cut) (jobs : ℕ) (one : (ws vs : List Window) →
       (λ (t : same vs ws ≡ false).
       let w : Within vs ws = one ws vs a e in
       let l : width vs < width ws = width_less vs ws w t in
-      subst (Repeats f ws) (sym (cond-false _ _ _ t)) (goes_on e (same_false vs ws t) (rest vs (within-formed vs ws a w) (omega arith))))
+      subst (Repeats f ws) (sym (cond-false _ _ _ t)) (goes_on e (same_false vs ws t) (rest vs (within_formed vs ws a w) (omega arith))))
       (cases_Bool (same vs ws))
 
   repeats_for : (n : ℕ) (ws : List Window) → Formed jobs ws → width ws < n → Repeats f ws (repeated_for f n ws)
@@ -160,11 +160,11 @@ module _ (f : List Window → Cut) (jobs : ℕ) (one : (ws vs : List Window) →
 pub same_step : (vs ws : List Window) (i : ℕ) → i < length vs → i < length ws → same (drop i vs) (drop i ws) ≡ (((window vs i).lo == (window ws i).lo && (window vs i).hi == (window ws i).hi) && same (drop (i + 1) vs) (drop (i + 1) ws))
 same_step vs ws i h g = rw add-one (ap (λ (x : List Window). same x (drop i ws)) (drop-cons vs i (window_of 0 0) h) ∙ ap (λ (x : List Window). same (window vs i ∷ drop (suc i) vs) x) (drop-cons ws i (window_of 0 0) g))
 
-pub same-apart : (vs ws : List Window) → (length vs ≢ length ws) → same vs ws ≡ false
-same-apart [] [] h = absurd (h refl)
-same-apart [] (w ∷ ws) h = refl
-same-apart (v ∷ vs) [] h = refl
-same-apart (v ∷ vs) (w ∷ ws) h = and_right _ _ (same-apart vs ws (λ e. h (ap suc e)))
+pub same_apart : (vs ws : List Window) → (length vs ≢ length ws) → same vs ws ≡ false
+same_apart [] [] h = absurd (h refl)
+same_apart [] (w ∷ ws) h = refl
+same_apart (v ∷ vs) [] h = refl
+same_apart (v ∷ vs) (w ∷ ws) h = and_right _ _ (same_apart vs ws (λ e. h (ap suc e)))
 
 pub same_more : (vs ws : List Window) (i : ℕ) (b : Bool) → i < length vs → length vs ≡ length ws → same vs ws ≡ same (drop i vs) (drop i ws) → ((window vs i).lo == (window ws i).lo && (window vs i).hi == (window ws i).hi) ≡ b → same vs ws ≡ (b && same (drop (i + 1) vs) (drop (i + 1) ws))
 same_more vs ws i b h n inv e =

@@ -3,8 +3,8 @@ ghost use Rattle.std.specs.Prelude.{◌≡◌, List};
 ghost use Rattle.std.proofs.Common.{subst};
 ghost use Rattle.rule.specs.Cuts.{then_cut, live};
 ghost use Rattle.sheet.specs.declared.records.Window.{Window};
-ghost use Rattle.rule.specs.Forming.{within-formed, within-within, within_single};
-ghost use Rattle.rule.specs.Piling.{then-live, then_keeps};
+ghost use Rattle.rule.specs.Forming.{within_formed, within_within, within_single};
+ghost use Rattle.rule.specs.Piling.{then_live, then_keeps};
 
 use crate::narrowing::Rule;
 use crate::verdict::Verdict;
@@ -27,14 +27,14 @@ impl<A: Rule, B: Rule> Rule for Both<A, B> {
         let b = B.Rule.lawful r.1 e s in
         record {
           contracting = λ ws us f l.
-              let d = then-live _ _ us l in
+              let d = then_live _ _ us l in
               let w = a.contracting ws d.0 f d.1 in
-              within-within us d.0 ws (b.contracting d.0 us (within-formed d.0 ws f w) d.2) w;
+              within_within us d.0 ws (b.contracting d.0 us (within_formed d.0 ws f w) d.2) w;
           preserving = λ ws t f p i.
               then_keeps _ _ t (a.preserving ws t f p.0 i) (λ vs l j.
-              b.preserving vs t (within-formed vs ws f (a.contracting ws vs f l)) p.1 j);
+              b.preserving vs t (within_formed vs ws f (a.contracting ws vs f l)) p.1 j);
           checking = λ ws us f o l.
-              let d = then-live _ _ us l in
+              let d = then_live _ _ us l in
               let q = within_single d.0 ws (a.contracting ws d.0 f d.1) o in
               let x : B.Rule.cut r.1 e ws ≡ live us = subst (λ (vs : List Window). B.Rule.cut r.1 e vs ≡ live us) q d.2 in
               (a.checking ws d.0 f o d.1, b.checking ws us f o x);

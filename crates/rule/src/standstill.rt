@@ -8,8 +8,8 @@ ghost use Rattle.rule.specs.Windows.{formed};
 ghost use Rattle.rule.specs.Cuts.{left, repeated, width};
 ghost use Rattle.rule.specs.Rounds.{round_of};
 ghost use Rattle.rule.specs.Laws.{Repeats};
-ghost use Rattle.rule.specs.Piling.{then-live};
-ghost use Rattle.rule.specs.Repeating.{repeated-within, repeated-keeps};
+ghost use Rattle.rule.specs.Piling.{then_live};
+ghost use Rattle.rule.specs.Repeating.{repeated_within, repeated_keeps};
 
 use crate::narrowing::Rule;
 use crate::verdict::Verdict;
@@ -66,9 +66,9 @@ impl<A: Rule> Rule for Standstill<A> {
     ghost lawful = { λ r e s.
         let a = A.Rule.lawful r.0 e s in
         record {
-          contracting = λ ws us f l. repeated-within _ _ a.contracting (suc (width ws)) ws us f l;
-          preserving = λ ws t f p i. repeated-keeps _ _ a.contracting t (λ vs o j. a.preserving vs t o p j) (suc (width ws)) ws f i;
-          checking = λ ws us f o l. let d = then-live _ _ us l in a.checking ws d.0 f o d.1;
+          contracting = λ ws us f l. repeated_within _ _ a.contracting (suc (width ws)) ws us f l;
+          preserving = λ ws t f p i. repeated_keeps _ _ a.contracting t (λ vs o j. a.preserving vs t o p j) (suc (width ws)) ws f i;
+          checking = λ ws us f o l. let d = then_live _ _ us l in a.checking ws d.0 f o d.1;
         } };
 
     fn propagate(&self, sheet: &Sheet, windows: &mut [Window]) -> Verdict {

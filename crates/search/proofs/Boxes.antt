@@ -17,8 +17,8 @@ set_each P (w ∷ ws) zero v x f (suc k) h = f (suc k) h
 set_each P (w ∷ ws) (suc j) v x f zero h = f 0 h
 set_each P (w ∷ ws) (suc j) v x f (suc k) h = set_each (λ i. P (suc i)) ws j v x (λ i l. f (suc i) (omega arith)) k (le_of_suc-le-suc h)
 
-pub set-formed : {n : ℕ} (ws : List Window) (j : ℕ) (v : Window) → v.lo ≤ v.hi → v.hi ≤ last_minute → Formed n ws → Formed n (set ws j v)
-set-formed ws j v o t f =
+pub set_formed : {n : ℕ} (ws : List Window) (j : ℕ) (v : Window) → v.lo ≤ v.hi → v.hi ≤ last_minute → Formed n ws → Formed n (set ws j v)
+set_formed ws j v o t f =
     let e : length (set ws j v) ≡ length ws = length-set ws j v in
     record {
       count = e ∙ f.count;
@@ -26,8 +26,8 @@ set-formed ws j v o t f =
       timely = λ k h. set_each (λ i w. w.hi ≤ last_minute) ws j v t f.timely k (omega arith);
     }
 
-pub set-inside : (t : List ℕ) (ws : List Window) (j : ℕ) (v : Window) → v.lo ≤ get_or t j 0 → get_or t j 0 ≤ v.hi → Inside t ws → Inside t (set ws j v)
-set-inside t ws j v l h i =
+pub set_inside : (t : List ℕ) (ws : List Window) (j : ℕ) (v : Window) → v.lo ≤ get_or t j 0 → get_or t j 0 ≤ v.hi → Inside t ws → Inside t (set ws j v)
+set_inside t ws j v l h i =
     let e : length (set ws j v) ≡ length ws = length-set ws j v in
     record {
       count = i.count ∙ sym e;
@@ -35,16 +35,16 @@ set-inside t ws j v l h i =
       high = λ k x. set_each (λ m w. get_or t m 0 ≤ w.hi) ws j v h i.high k (omega arith);
     }
 
-pub set-within : (ws : List Window) (j : ℕ) (v : Window) → (window ws j).lo ≤ v.lo → v.lo ≤ v.hi → v.hi ≤ (window ws j).hi → Ordered ws → Within (set ws j v) ws
-set-within ws j v l o h f = record {
+pub set_within : (ws : List Window) (j : ℕ) (v : Window) → (window ws j).lo ≤ v.lo → v.lo ≤ v.hi → v.hi ≤ (window ws j).hi → Ordered ws → Within (set ws j v) ws
+set_within ws j v l o h f = record {
   count = length-set ws j v;
   low = set_each (λ k w. (window ws k).lo ≤ w.lo) ws j v l (λ k x. omega arith);
   ordered = set_each (λ k w. w.lo ≤ w.hi) ws j v o f;
   high = set_each (λ k w. w.hi ≤ (window ws k).hi) ws j v h (λ k x. omega arith);
 }
 
-pub inside-within : (t : List ℕ) (vs ws : List Window) → Within vs ws → Inside t vs → Inside t ws
-inside-within t vs ws w i =
+pub inside_within : (t : List ℕ) (vs ws : List Window) → Within vs ws → Inside t vs → Inside t ws
+inside_within t vs ws w i =
     let c : length vs ≡ length ws = w.count in
     record {
       count = i.count ∙ c;
@@ -64,19 +64,19 @@ two_parts [] j u v h x = absurd (not-suc-le-zero h)
 two_parts (w ∷ ws) zero u v h x = omega (arith, mul-le-mul_right (timetables ws) x)
 two_parts (w ∷ ws) (suc j) u v h x = omega (arith, mul-le-mul_left (suc w.hi - w.lo) (two_parts ws j u v (le_of_suc-le-suc h) x))
 
-pub starts-at : (ws : List Window) (k : ℕ) → k < length ws → get_or (starts ws) k 0 ≡ (window ws k).lo
-starts-at [] k h = absurd (not-suc-le-zero h)
-starts-at (w ∷ ws) zero h = refl
-starts-at (w ∷ ws) (suc k) h = starts-at ws k (le_of_suc-le-suc h)
+pub starts_at : (ws : List Window) (k : ℕ) → k < length ws → get_or (starts ws) k 0 ≡ (window ws k).lo
+starts_at [] k h = absurd (not-suc-le-zero h)
+starts_at (w ∷ ws) zero h = refl
+starts_at (w ∷ ws) (suc k) h = starts_at ws k (le_of_suc-le-suc h)
 
-pub starts-count : (ws : List Window) → length (starts ws) ≡ length ws
-starts-count [] = refl
-starts-count (w ∷ ws) = ap suc (starts-count ws)
+pub starts_count : (ws : List Window) → length (starts ws) ≡ length ws
+starts_count [] = refl
+starts_count (w ∷ ws) = ap suc (starts_count ws)
 
 -- the first starts of ordered windows lie within them
-pub starts-inside : (ws : List Window) → Ordered ws → Inside (starts ws) ws
-starts-inside ws o = record {
-  count = starts-count ws;
-  low = λ k h. omega (arith, starts-at ws k h);
-  high = λ k h. omega (arith, starts-at ws k h, o k h);
+pub starts_inside : (ws : List Window) → Ordered ws → Inside (starts ws) ws
+starts_inside ws o = record {
+  count = starts_count ws;
+  low = λ k h. omega (arith, starts_at ws k h);
+  high = λ k h. omega (arith, starts_at ws k h, o k h);
 }

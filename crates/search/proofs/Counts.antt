@@ -9,13 +9,13 @@ use Rattle.search.specs.Counting.{timetables, each_before, every, In, Once, Coun
 abbrev cons : ℕ → List ℕ → List ℕ
 cons a t = a ∷ t
 
-each_before-length : (a k : ℕ) (ts : List (List ℕ)) → length (each_before a k ts) ≡ k * length ts
-each_before-length a zero ts = omega arith
-each_before-length a (suc k) ts = omega (arith, length-append (map (cons a) ts) (each_before (suc a) k ts), length-map ts (cons a), each_before-length (suc a) k ts)
+each_before_length : (a k : ℕ) (ts : List (List ℕ)) → length (each_before a k ts) ≡ k * length ts
+each_before_length a zero ts = omega arith
+each_before_length a (suc k) ts = omega (arith, length-append (map (cons a) ts) (each_before (suc a) k ts), length-map ts (cons a), each_before_length (suc a) k ts)
 
-every-length : (ws : List Window) → length (every ws) ≡ timetables ws
-every-length [] = refl
-every-length (w ∷ ws) = each_before-length w.lo (suc w.hi - w.lo) (every ws) ∙ ap (λ (x : ℕ). (suc w.hi - w.lo) * x) (every-length ws)
+every_length : (ws : List Window) → length (every ws) ≡ timetables ws
+every_length [] = refl
+every_length (w ∷ ws) = each_before_length w.lo (suc w.hi - w.lo) (every ws) ∙ ap (λ (x : ℕ). (suc w.hi - w.lo) * x) (every_length ws)
 
 in_append : (t : List ℕ) (xs ys : List (List ℕ)) → In t (xs ++ ys) → In t xs ⊎ In t ys
 in_append t [] ys m = inr m
@@ -67,34 +67,34 @@ each_before_in a (suc k) ts b r l h m =
     (λ (e : a ≡ b → ⊥). in_right (b ∷ r) (map (cons a) ts) _ (each_before_in (suc a) k ts b r (omega arith) (omega arith) m))
     (cases_eq a b)
 
-once-append : (xs ys : List (List ℕ)) → Once xs → Once ys → ((t : List ℕ) → In t xs → In t ys → ⊥) → Once (xs ++ ys)
-once-append [] ys p q f = q
-once-append (x ∷ xs) ys p q f = ((λ m. ⊎_elim p.0 (f x (inl refl)) (in_append x xs ys m)), once-append xs ys p.1 q (λ t u v. f t (inr u) v))
+once_append : (xs ys : List (List ℕ)) → Once xs → Once ys → ((t : List ℕ) → In t xs → In t ys → ⊥) → Once (xs ++ ys)
+once_append [] ys p q f = q
+once_append (x ∷ xs) ys p q f = ((λ m. ⊎_elim p.0 (f x (inl refl)) (in_append x xs ys m)), once_append xs ys p.1 q (λ t u v. f t (inr u) v))
 
 tail_same : (a b : ℕ) (r s : List ℕ) → ◌≡◌ {A = List ℕ} (a ∷ r) (b ∷ s) → r ≡ s
 tail_same a b r s e = cc
 
-head-same : (a b : ℕ) (r s : List ℕ) → ◌≡◌ {A = List ℕ} (a ∷ r) (b ∷ s) → a ≡ b
-head-same a b r s e = cc
+head_same : (a b : ℕ) (r s : List ℕ) → ◌≡◌ {A = List ℕ} (a ∷ r) (b ∷ s) → a ≡ b
+head_same a b r s e = cc
 
-once-map : (a : ℕ) (ts : List (List ℕ)) → Once ts → Once (map (cons a) ts)
-once-map a [] p = tt
-once-map a (u ∷ us) p = ((λ m. let x = in_map a (a ∷ u) us m in p.0 (subst (λ (r : List ℕ). In r us) (sym (tail_same a a u x.0 x.1)) x.2)), once-map a us p.1)
+once_map : (a : ℕ) (ts : List (List ℕ)) → Once ts → Once (map (cons a) ts)
+once_map a [] p = tt
+once_map a (u ∷ us) p = ((λ m. let x = in_map a (a ∷ u) us m in p.0 (subst (λ (r : List ℕ). In r us) (sym (tail_same a a u x.0 x.1)) x.2)), once_map a us p.1)
 
-once-each_before : (a k : ℕ) (ts : List (List ℕ)) → Once ts → Once (each_before a k ts)
-once-each_before a zero ts p = tt
-once-each_before a (suc k) ts p =
-    once-append (map (cons a) ts) (each_before (suc a) k ts) (once-map a ts p) (once-each_before (suc a) k ts p) (λ t u v.
+once_each_before : (a k : ℕ) (ts : List (List ℕ)) → Once ts → Once (each_before a k ts)
+once_each_before a zero ts p = tt
+once_each_before a (suc k) ts p =
+    once_append (map (cons a) ts) (each_before (suc a) k ts) (once_map a ts p) (once_each_before (suc a) k ts p) (λ t u v.
     let x = in_map a t ts u in
     let y = in_each_before (suc a) k ts t v in
-    omega (arith, head-same a y.head x.0 y.rest (sym x.1 ∙ y.is), y.low))
+    omega (arith, head_same a y.head x.0 y.rest (sym x.1 ∙ y.is), y.low))
 
-once-every : (ws : List Window) → Once (every ws)
-once-every [] = ((λ m. m), tt)
-once-every (w ∷ ws) = once-each_before w.lo (suc w.hi - w.lo) (every ws) (once-every ws)
+once_every : (ws : List Window) → Once (every ws)
+once_every [] = ((λ m. m), tt)
+once_every (w ∷ ws) = once_each_before w.lo (suc w.hi - w.lo) (every ws) (once_every ws)
 
-inside-cons : (b : ℕ) (r : List ℕ) (w : Window) (ws : List Window) → w.lo ≤ b → b ≤ w.hi → Inside r ws → Inside (b ∷ r) (w ∷ ws)
-inside-cons b r w ws l h i = record { count = ap suc i.count; low = low; high = high }
+inside_cons : (b : ℕ) (r : List ℕ) (w : Window) (ws : List Window) → w.lo ≤ b → b ≤ w.hi → Inside r ws → Inside (b ∷ r) (w ∷ ws)
+inside_cons b r w ws l h i = record { count = ap suc i.count; low = low; high = high }
   where
     low : (k : ℕ) → k < suc (length ws) → (window (w ∷ ws) k).lo ≤ get_or (b ∷ r) k 0
     low zero x = l
@@ -109,7 +109,7 @@ in_inside [] t (inl e) = record { count = ap length e; low = λ k h. absurd (not
 in_inside [] t (inr m) = absurd m
 in_inside (w ∷ ws) t m =
     let x = in_each_before w.lo (suc w.hi - w.lo) (every ws) t m in
-    subst (λ (u : List ℕ). Inside u (w ∷ ws)) (sym x.is) (inside-cons x.head x.rest w ws x.low (omega (arith, x.low, x.high)) (in_inside ws x.rest x.member))
+    subst (λ (u : List ℕ). Inside u (w ∷ ws)) (sym x.is) (inside_cons x.head x.rest w ws x.low (omega (arith, x.low, x.high)) (in_inside ws x.rest x.member))
 
 inside_in : (ws : List Window) (t : List ℕ) → Inside t ws → In t (every ws)
 inside_in [] [] i = inl refl
@@ -123,7 +123,7 @@ inside_in (w ∷ ws) (b ∷ r) i =
 
 pub counted : (ws : List Window) → Counted ws
 counted ws = record {
-  number = every-length ws;
-  once = once-every ws;
+  number = every_length ws;
+  once = once_every ws;
   exactly = λ t. (in_inside ws t, inside_in ws t);
 }

@@ -13,11 +13,11 @@ abbrev Room : List Window → ℕ → Type 0
 Room [] r = Unit {0}
 Room (w ∷ ws) r = (a : ℕ) × (b : ℕ) × (suc w.hi - w.lo ≤ 2 ^ a) × Room ws b × (a + b ≤ r)
 
-room-start : (ws : List Window) → ((k : ℕ) → k < length ws → (window ws k).hi ≤ last_minute) → Room ws (16 * length ws)
-room-start [] f = tt
-room-start (w ∷ ws) f =
+room_start : (ws : List Window) → ((k : ℕ) → k < length ws → (window ws k).hi ≤ last_minute) → Room ws (16 * length ws)
+room_start [] f = tt
+room_start (w ∷ ws) f =
     let t : w.hi ≤ last_minute = f 0 (omega arith) in
-    (16, 16 * length ws, omega arith, room-start ws (λ k h. f (suc k) (omega arith)), omega arith)
+    (16, 16 * length ws, omega arith, room_start ws (λ k h. f (suc k) (omega arith)), omega arith)
 
 halve : (a x y : ℕ) → 2 ≤ x → 2 * y ≤ suc x → x ≤ 2 ^ a → (c : ℕ) × (suc c ≤ a) × (y ≤ 2 ^ c)
 halve zero x y p q h = absurd (omega arith)
@@ -33,7 +33,7 @@ room_less (w ∷ ws) (suc j) v r h x y m =
     (m.0 + c.0, omega (arith, c.1, m.4), (m.0, c.0, m.2, c.2, omega arith))
 
 path_room : (ws : List Window) (p : List Decision) → ((k : ℕ) → k < length ws → (window ws k).hi ≤ last_minute) → Grown ws p → (r : ℕ) × Room (cut_down ws p) r × (r + length p ≤ 16 * length ws)
-path_room ws [] f g = (16 * length ws, room-start ws f, omega arith)
+path_room ws [] f g = (16 * length ws, room_start ws f, omega arith)
 path_room ws (d ∷ p) f g =
     let m = path_room ws p f (grown_before ws d p g) in
     let s : Splits (cut_down ws p) d = grown_last ws d p g in

@@ -3,14 +3,14 @@ use Rattle.std.proofs.Common.{ℕ, zero, suc, ◌+◌, ◌-◌, ◌*◌, ◌<◌
 use Rattle.std.proofs.lemmas.Bool.{cases_lt}
 use Rattle.sheet.specs.declared.records.Window.{Window}
 use Rattle.rule.specs.Windows.{window, Formed, Within, Inside}
-use Rattle.rule.specs.Forming.{still_within, within-within}
+use Rattle.rule.specs.Forming.{still_within, within_within}
 use Rattle.search.specs.declared.decision.Decision.{Decision}
 use Rattle.search.specs.declared.decision.Part.{Part}
 use Rattle.search.specs.declared.decision.Part.TheVariants.{First, Second}
 use Rattle.search.specs.Counting.{timetables}
 use Rattle.search.specs.Deciding.{part_of, to_second, cut_down, Splits, Grown}
 use Rattle.search.specs.Looks.{opened, path_of, by_part, backtracked}
-use Rattle.search.proofs.Boxes.{set-formed, set-inside, set-within, two_parts}
+use Rattle.search.proofs.Boxes.{set_formed, set_inside, set_within, two_parts}
 
 -- a box with the job's window cut to one part
 abbrev pub part_box : Part → List Window → Decision → List Window
@@ -34,10 +34,10 @@ module _ (box : List Window) (d : Decision) (s : Splits box d) where
 
   pub part_formed : {n : ℕ} (b : Part) → Formed n box → Formed n (part_box b box d)
   part_formed b f =
-      set-formed box d.job (part_of b d) (part_ordered b) (omega (arith, part_high b, f.timely d.job s.0)) f
+      set_formed box d.job (part_of b d) (part_ordered b) (omega (arith, part_high b, f.timely d.job s.0)) f
 
   pub part_within : {n : ℕ} (b : Part) → Formed n box → Within (part_box b box d) box
-  part_within b f = set-within box d.job (part_of b d) (part_low b) (part_ordered b) (part_high b) f.ordered
+  part_within b f = set_within box d.job (part_of b d) (part_low b) (part_ordered b) (part_high b) f.ordered
 
   -- each part has half of the starts at most, rounded up
   pub part_half : (b : Part) → 2 * (suc (part_of b d).hi - (part_of b d).lo) ≤ suc (suc (window box d.job).hi - (window box d.job).lo)
@@ -52,8 +52,8 @@ module _ (box : List Window) (d : Decision) (s : Splits box d) where
 pub in_a_part : (t : List ℕ) (box : List Window) (d : Decision) → d.window.lo ≤ get_or t d.job 0 → get_or t d.job 0 ≤ d.window.hi → Inside t box → Inside t (part_box First box d) ⊎ Inside t (part_box Second box d)
 in_a_part t box d l h i =
     ⊎_elim
-    (λ (x : d.middle < get_or t d.job 0). inr (set-inside t box d.job (part_of Second d) (omega arith) h i))
-    (λ (x : get_or t d.job 0 ≤ d.middle). inl (set-inside t box d.job (part_of First d) l x i))
+    (λ (x : d.middle < get_or t d.job 0). inr (set_inside t box d.job (part_of Second d) (omega arith) h i))
+    (λ (x : get_or t d.job 0 ≤ d.middle). inl (set_inside t box d.job (part_of First d) l x i))
     (cases_lt d.middle (get_or t d.job 0))
 
 module _ (ws : List Window) where
@@ -86,4 +86,4 @@ module _ (ws : List Window) where
   cut_within [] f g = still_within ws f
   cut_within (d ∷ p) f g =
       let b = grown_before d p g in
-      within-within _ (cut_down ws p) ws (part_within (cut_down ws p) d (grown_last d p g) d.part (cut_formed p f b)) (cut_within p f b)
+      within_within _ (cut_down ws p) ws (part_within (cut_down ws p) d (grown_last d p g) d.part (cut_formed p f b)) (cut_within p f b)

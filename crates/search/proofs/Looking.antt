@@ -8,7 +8,7 @@ use Rattle.sheet.specs.Sound.{Sound}
 use Rattle.rule.specs.Windows.{window, window_of, Formed, Within, Inside, starts}
 use Rattle.rule.specs.Cuts.{Cut, dead, live, repeated}
 use Rattle.rule.specs.Laws.{Keeps, Lawful}
-use Rattle.rule.specs.Forming.{within-within}
+use Rattle.rule.specs.Forming.{within_within}
 use Rattle.search.specs.declared.decision.Decision.{Decision}
 use Rattle.search.specs.declared.decision.Part.{Part}
 use Rattle.search.specs.declared.decision.Part.TheVariants.{First, Second}
@@ -17,13 +17,13 @@ use Rattle.search.specs.Counting.{timetables}
 use Rattle.search.specs.Choosing.{narrowest, Narrowest, Chooses}
 use Rattle.search.specs.Deciding.{decision_on, to_second, cut_down, Splits, Grown}
 use Rattle.search.specs.Looks.{State, opened, found, impossible, path_of, by_part, backtracked, branched, looked_at, one_look, after_looks, looks_made}
-use Rattle.search.proofs.Boxes.{some_timetable, starts-inside, inside-within}
+use Rattle.search.proofs.Boxes.{some_timetable, starts_inside, inside_within}
 use Rattle.search.proofs.Nearest.{narrowest_chooses}
 use Rattle.search.proofs.Halving.{part_box, part_formed, parts_fewer, in_a_part, grown_last, grown_before, grown_more, cut_formed, cut_within}
 use Rattle.search.proofs.Standing.{standstill_within, standstill_keeps, standstill_admits}
 
-pub entered-formed : (e : Entries) → Sound e → Formed (length e.jobs) (entered_windows e)
-entered-formed e s =
+pub entered_formed : (e : Entries) → Sound e → Formed (length e.jobs) (entered_windows e)
+entered_formed e s =
     let n : length (entered_windows e) ≡ length e.jobs = length-map e.jobs entered_window in
     let at : (k : ℕ) → k < length e.jobs → window (entered_windows e) k ≡ entered_window (get_or e.jobs k (job_of 0 0 0 0)) = λ k h. get_or-map entered_window e.jobs k (job_of 0 0 0 0) (window_of 0 0) h in
     record {
@@ -36,8 +36,8 @@ entered-formed e s =
 abbrev pub worth : List Window → ℕ
 worth box = 2 * timetables box - 1
 
-worth-some : {n : ℕ} (box : List Window) → Formed n box → 1 ≤ worth box
-worth-some box f = omega (arith, some_timetable box f.ordered)
+worth_some : {n : ℕ} (box : List Window) → Formed n box → 1 ≤ worth box
+worth_some box f = omega (arith, some_timetable box f.ordered)
 
 -- the two parts of a box and the look that splits it take no more than the box
 parts_worth : {n : ℕ} (box : List Window) (d : Decision) → Formed n box → Splits box d → suc (worth (part_box First box d) + worth (part_box Second box d)) ≤ worth box
@@ -147,8 +147,8 @@ module _ {n : ℕ} {admits : List ℕ → Type 0} {cut : List Window → Cut} (l
       record {
         grown = g.grown;
         admitted = standstill_admits laws box us f q (λ k h. omega (arith, o k h, x k h));
-        inside = inside-within _ us (entered_windows e) (within-within us box (entered_windows e) i (cut_within (entered_windows e) p formed g.grown)) (starts-inside us o);
-        bounded = omega (arith, g.bounded, worth-some box f);
+        inside = inside_within _ us (entered_windows e) (within_within us box (entered_windows e) i (cut_within (entered_windows e) p formed g.grown)) (starts_inside us o);
+        bounded = omega (arith, g.bounded, worth_some box f);
       }
 
   dead_good : (m : ℕ) (p : List Decision) → repeated cut (cut_down (entered_windows e) p) ≡ dead → Searching admits (entered_windows e) m p → Good admits (entered_windows e) (suc m) (backtracked p)
@@ -161,7 +161,7 @@ module _ {n : ℕ} {admits : List ℕ → Type 0} {cut : List Window → Cut} (l
       (λ (z : Inside t box). absurd (subst (λ (v : Cut). Keeps v t) q (standstill_keeps laws box t f a z)))
       (λ (z : Pending t (entered_windows e) p). z)
       (g.covered t a y))
-      (omega (arith, g.bounded, worth-some box f))
+      (omega (arith, g.bounded, worth_some box f))
 
   look_good : (m : ℕ) (p : List Decision) → Searching admits (entered_windows e) m p → Good admits (entered_windows e) (suc m) (one_look cut e p)
   look_good m p g = by_cut (repeated cut (cut_down (entered_windows e) p)) refl
@@ -184,4 +184,4 @@ module _ {n : ℕ} {admits : List ℕ → Type 0} {cut : List Window → Cut} (l
   -- while a search is open there is a look left
   pub look_left : (m : ℕ) (p : List Decision) → Searching admits (entered_windows e) m p → m < worth (entered_windows e)
   look_left m p g =
-      omega (arith, g.bounded, worth-some (cut_down (entered_windows e) p) (cut_formed (entered_windows e) p formed g.grown))
+      omega (arith, g.bounded, worth_some (cut_down (entered_windows e) p) (cut_formed (entered_windows e) p formed g.grown))

@@ -4,7 +4,7 @@ use Rattle.std.proofs.lemmas.Bool.{cases_Bool, cases_lt, cases_order, cond-true,
 use Rattle.sheet.specs.declared.records.Window.{Window}
 use Rattle.sheet.specs.Limits.{last_minute}
 use Rattle.rule.specs.Windows.{window, all_fine}
-use Rattle.rule.specs.Forming.{fine-at}
+use Rattle.rule.specs.Forming.{fine_at}
 use Rattle.search.specs.Choosing.{slack, or_first, narrowest, Narrowest, Chooses}
 
 first_none : (w : Window) (ws : List Window) → Chooses ws None → Chooses (w ∷ ws) (or_first w ws None)
@@ -110,4 +110,4 @@ pub best_is : (ws : List Window) (i : ℕ) (q r : Option ℕ) (m n : ℕ) → q 
 best_is ws i q r m n e f b = subst (λ (x : Option ℕ). Best ws i x m) (sym e) (subst (Best ws i r) (sym f) b)
 
 pub slack_small : (ws : List Window) (i : ℕ) → all_fine ws ≡ true → i < length ws → slack (window ws i) ≤ last_minute
-slack_small ws i e h = le_trans (sub-le (window ws i).hi (window ws i).lo) (leb-true _ _ (and_parts _ _ (fine-at ws i e h)).1)
+slack_small ws i e h = le_trans (sub-le (window ws i).hi (window ws i).lo) (leb-true _ _ (and_parts _ _ (fine_at ws i e h)).1)

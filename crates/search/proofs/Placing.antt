@@ -17,8 +17,8 @@ place ps k = get_or ps k blank_decision
 abbrev pub newest : List Decision → ℕ → List Decision
 newest ps k = reverse (take k ps)
 
-pub newest-length : (ps : List Decision) (k : ℕ) → k ≤ length ps → length (newest ps k) ≡ k
-newest-length ps k h = length-reverse (take k ps) ∙ length-take-le k ps h
+pub newest_length : (ps : List Decision) (k : ℕ) → k ≤ length ps → length (newest ps k) ≡ k
+newest_length ps k h = length-reverse (take k ps) ∙ length-take-le k ps h
 
 pub newest_more : (ps : List Decision) (k : ℕ) → k < length ps → newest ps (k + 1) ≡ place ps k ∷ newest ps k
 newest_more ps k h = ap reverse (take_more ps k blank_decision h) ∙ reverse-append (take k ps) (place ps k ∷ [])
@@ -38,8 +38,8 @@ grown_place ws ps (suc n) i h l g =
     (cases_eq i n)
 
 -- so its job is there
-pub job-there : (ws vs : List Window) (ps : List Decision) (n i : ℕ) → i < n → n ≤ length ps → Grown ws (newest ps n) → vs ≡ cut_down ws (newest ps i) → (place ps i).job < length vs
-job-there ws vs ps n i h l g e = omega (arith, (grown_place ws ps n i h l g).0, ap length e)
+pub job_there : (ws vs : List Window) (ps : List Decision) (n i : ℕ) → i < n → n ≤ length ps → Grown ws (newest ps n) → vs ≡ cut_down ws (newest ps i) → (place ps i).job < length vs
+job_there ws vs ps n i h l g e = omega (arith, (grown_place ws ps n i h l g).0, ap length e)
 
 pub cut_more : (ws vs : List Window) (ps : List Decision) (i : ℕ) (w : Window) → i < length ps → vs ≡ cut_down ws (newest ps i) → w ≡ chosen (place ps i) → set vs (place ps i).job w ≡ cut_down ws (newest ps (i + 1))
 cut_more ws vs ps i w h e q =
@@ -47,8 +47,8 @@ cut_more ws vs ps i w h e q =
     ∙ ap (λ (x : Window). set (cut_down ws (newest ps i)) (place ps i).job x) q
     ∙ ap (cut_down ws) (sym (newest_more ps i h))
 
-newest-last : (ps : List Decision) (k : ℕ) → 0 < k → k ≤ length ps → newest ps k ≡ place ps (k - 1) ∷ newest ps (k - 1)
-newest-last ps k h l =
+newest_last : (ps : List Decision) (k : ℕ) → 0 < k → k ≤ length ps → newest ps k ≡ place ps (k - 1) ∷ newest ps (k - 1)
+newest_last ps k h l =
     let e : k ≡ (k - 1) + 1 = omega arith in ap (newest ps) e ∙ newest_more ps (k - 1) (omega arith)
 
 not_first : (b : Part) → (b ≡ First → ⊥) → b ≡ Second
@@ -61,20 +61,20 @@ back_dropped ps k x h l n q =
     let d = place ps (k - 1) in
     let r = newest ps (k - 1) in
     ap (λ (b : Part). by_part b (opened (to_second d ∷ r)) (backtracked r)) (sym (not_first d.part n))
-    ∙ ap backtracked (sym (newest-last ps k h l)) ∙ q
+    ∙ ap backtracked (sym (newest_last ps k h l)) ∙ q
 
 -- one on its first part goes to its second
 pub record Turned (ps : List Decision) (k : ℕ) (x : State) : Type 0 where
   pub answer : true ≡ is_open x
   pub after : newest (set ps (k - 1) (to_second (place ps (k - 1)))) k ≡ path_of x
 
-pub back-turned : (ps : List Decision) (k : ℕ) (x : State) → 0 < k → k ≤ length ps → (place ps (k - 1)).part ≡ First → backtracked (newest ps k) ≡ x → Turned ps k x
-back-turned ps k x h l e q =
+pub back_turned : (ps : List Decision) (k : ℕ) (x : State) → 0 < k → k ≤ length ps → (place ps (k - 1)).part ≡ First → backtracked (newest ps k) ≡ x → Turned ps k x
+back_turned ps k x h l e q =
     let d = place ps (k - 1) in
     let r = newest ps (k - 1) in
     let j : k ≡ (k - 1) + 1 = omega arith in
     let o : opened (to_second d ∷ r) ≡ x =
-    ap (λ (b : Part). by_part b (opened (to_second d ∷ r)) (backtracked r)) (sym e) ∙ ap backtracked (sym (newest-last ps k h l)) ∙ q in
+    ap (λ (b : Part). by_part b (opened (to_second d ∷ r)) (backtracked r)) (sym e) ∙ ap backtracked (sym (newest_last ps k h l)) ∙ q in
     record {
       answer = ap is_open o;
       after = ap (newest (set ps (k - 1) (to_second d))) j ∙ newest_written ps (k - 1) (to_second d) (omega arith) ∙ ap path_of o;

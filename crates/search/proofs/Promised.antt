@@ -9,18 +9,18 @@ use Rattle.search.specs.declared.decision.Decision.{Decision}
 use Rattle.search.specs.Entered.{entered_windows}
 use Rattle.search.specs.Looks.{State, opened, found, impossible, path_of, one_look, after_looks, looks_made}
 use Rattle.search.specs.Promise.{enough_looks, Promise, KeepsPromise, reports, total}
-use Rattle.search.proofs.Looking.{entered-formed, Good, start_good, run_good, good_few, good_grown, look_left}
-use Rattle.search.proofs.Rows.{composes, after-add, made_add, made_within, open_spent}
+use Rattle.search.proofs.Looking.{entered_formed, Good, start_good, run_good, good_few, good_grown, look_left}
+use Rattle.search.proofs.Rows.{composes, after_add, made_add, made_within, open_spent}
 use Rattle.search.proofs.Depth.{path_short}
 
 module _ {admits : List ℕ → Type 0} {cut : List Window → Cut} (e : Entries) (sound : Sound e) (laws : Lawful (length e.jobs) admits cut) where
   looked : (k : ℕ) → Good admits (entered_windows e) (looks_made (one_look cut e) k (opened [])) (after_looks (one_look cut e) k (opened []))
   looked k =
       subst (λ (m : ℕ). Good admits (entered_windows e) m (after_looks (one_look cut e) k (opened []))) (omega arith)
-      (run_good laws e (entered-formed e sound) k 0 (opened []) (start_good admits (entered_windows e)))
+      (run_good laws e (entered_formed e sound) k 0 (opened []) (start_good admits (entered_windows e)))
 
   settles : (k m : ℕ) (s : State) → Good admits (entered_windows e) m s → ((p : List Decision) → s ≡ opened p → m ≡ k) → enough_looks e ≤ k → (s ≡ impossible) ⊎ ((p : List Decision) × (t : List ℕ) × (s ≡ found p t))
-  settles k m (opened p) g f h = absurd (omega (arith, f p refl, look_left laws e (entered-formed e sound) m p g))
+  settles k m (opened p) g f h = absurd (omega (arith, f p refl, look_left laws e (entered_formed e sound) m p g))
   settles k m (found p t) g f h = inr (p, t, refl)
   settles k m impossible g f h = inl refl
 
@@ -37,7 +37,7 @@ module _ {admits : List ℕ → Type 0} {cut : List Window → Cut} (e : Entries
         enough = settles k m s g (open_spent (one_look cut e) k (opened []));
         spent = open_spent (one_look cut e) k (opened []);
         granted_only = made_within (one_look cut e) k (opened []);
-        short = path_short (entered_windows e) (path_of s) sound.few_jobs (entered-formed e sound) (good_grown admits (entered_windows e) m s g);
+        short = path_short (entered_windows e) (path_of s) sound.few_jobs (entered_formed e sound) (good_grown admits (entered_windows e) m s g);
       }
 
   promise_at : (g : ℕ) (m : ℕ) (s : State) → m ≡ looks_made (one_look cut e) g (opened []) → s ≡ after_looks (one_look cut e) g (opened []) → Promise admits e g m s
@@ -55,4 +55,4 @@ module _ {admits : List ℕ → Type 0} {cut : List Window → Cut} (e : Entries
       (ap (λ (k : ℕ). reports f gs (opened []) + k) (q ∙ ap (looks_made f g) z)
       ∙ ap (λ (k : ℕ). k + looks_made f g (after_looks f (total gs) (opened []))) c.1
       ∙ sym (made_add f (total gs) g (opened [])))
-      (p ∙ ap (after_looks f g) z ∙ sym (after-add f (total gs) g (opened [])))
+      (p ∙ ap (after_looks f g) z ∙ sym (after_add f (total gs) g (opened [])))

@@ -5,13 +5,13 @@ use Rattle.search.specs.Looks.{State, opened, found, impossible, after_looks, lo
 use Rattle.search.specs.Promise.{advances, reports, total, Composes}
 
 module _ (f : List Decision → State) where
-  after-found : (k : ℕ) (p : List Decision) (t : List ℕ) → after_looks f k (found p t) ≡ found p t
-  after-found zero p t = refl
-  after-found (suc k) p t = refl
+  after_found : (k : ℕ) (p : List Decision) (t : List ℕ) → after_looks f k (found p t) ≡ found p t
+  after_found zero p t = refl
+  after_found (suc k) p t = refl
 
-  after-impossible : (k : ℕ) → after_looks f k impossible ≡ impossible
-  after-impossible zero = refl
-  after-impossible (suc k) = refl
+  after_impossible : (k : ℕ) → after_looks f k impossible ≡ impossible
+  after_impossible zero = refl
+  after_impossible (suc k) = refl
 
   made_found : (k : ℕ) (p : List Decision) (t : List ℕ) → looks_made f k (found p t) ≡ 0
   made_found zero p t = refl
@@ -21,11 +21,11 @@ module _ (f : List Decision → State) where
   made_impossible zero = refl
   made_impossible (suc k) = refl
 
-  pub after-add : (k m : ℕ) (s : State) → after_looks f (k + m) s ≡ after_looks f m (after_looks f k s)
-  after-add zero m s = rw zero-add
-  after-add (suc k) m (opened p) = rw suc-add (after-add k m (f p))
-  after-add (suc k) m (found p t) = after-found (suc k + m) p t ∙ sym (after-found m p t)
-  after-add (suc k) m impossible = after-impossible (suc k + m) ∙ sym (after-impossible m)
+  pub after_add : (k m : ℕ) (s : State) → after_looks f (k + m) s ≡ after_looks f m (after_looks f k s)
+  after_add zero m s = rw zero-add
+  after_add (suc k) m (opened p) = rw suc-add (after_add k m (f p))
+  after_add (suc k) m (found p t) = after_found (suc k + m) p t ∙ sym (after_found m p t)
+  after_add (suc k) m impossible = after_impossible (suc k + m) ∙ sym (after_impossible m)
 
   pub made_add : (k m : ℕ) (s : State) → looks_made f (k + m) s ≡ looks_made f k s + looks_made f m (after_looks f k s)
   made_add zero m s = ap (λ (n : ℕ). looks_made f n s) (zero-add m) ∙ sym (zero-add (looks_made f m s))
@@ -36,7 +36,7 @@ module _ (f : List Decision → State) where
 
   advances_one : (gs : List ℕ) (s : State) → advances f gs s ≡ after_looks f (total gs) s
   advances_one [] s = refl
-  advances_one (g ∷ gs) s = advances_one gs (after_looks f g s) ∙ sym (after-add g (total gs) s)
+  advances_one (g ∷ gs) s = advances_one gs (after_looks f g s) ∙ sym (after_add g (total gs) s)
 
   reports_one : (gs : List ℕ) (s : State) → reports f gs s ≡ looks_made f (total gs) s
   reports_one [] s = refl

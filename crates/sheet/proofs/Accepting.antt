@@ -9,10 +9,10 @@ use Rattle.sheet.specs.declared.refusal.Refusal.{Refusal}
 use Rattle.sheet.specs.Entries.{Entries, no_entries, job, job_of, link_of, with_job, with_link, moved}
 use Rattle.sheet.specs.Sound.{Sound, Entered, Linked, AllLinked}
 use Rattle.sheet.specs.Entering.{enter_answer, link_answer, move_answer}
-use Rattle.sheet.proofs.Linking.{linked-among_more}
+use Rattle.sheet.proofs.Linking.{linked_among_more}
 
-pub none-sound : Sound no_entries
-none-sound = record {
+pub none_sound : Sound no_entries
+none_sound = record {
   few_jobs = omega arith;
   few_links = omega arith;
   entered = λ k h. absurd (omega arith);
@@ -39,11 +39,11 @@ enter_sound e j n s q =
       few_jobs = omega arith;
       few_links = s.few_links;
       entered = λ k h. All-get_or Entered (e.jobs ++ (j ∷ [])) k (job_of 0 0 0 0) h (All-push Entered e.jobs j (All-from_get_or Entered e.jobs (job_of 0 0 0 0) s.entered) good);
-      linked = subst (λ (m : ℕ). AllLinked m e.links) (sym more) (linked-among_more _ _ s.linked);
+      linked = subst (λ (m : ℕ). AllLinked m e.links) (sym more) (linked_among_more _ _ s.linked);
     }
 
-pub link-sound : (e : Entries) (l : Link) → Sound e → link_answer e l ≡ Ok tt → Sound (with_link e l)
-link-sound e l s q =
+pub link_sound : (e : Entries) (l : Link) → Sound e → link_answer e l ≡ Ok tt → Sound (with_link e l)
+link_sound e l s q =
     let known = passed _ _ _ tt q in
     let apart = passed _ _ _ tt known.1 in
     let wait = passed _ _ _ tt apart.1 in

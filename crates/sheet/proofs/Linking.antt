@@ -5,8 +5,8 @@ use Rattle.sheet.specs.Entries.{link, link_of}
 use Rattle.sheet.specs.Sound.{AllLinked}
 use Rattle.sheet.specs.Entering.{has_link}
 
-pub linked-among_more : (n : ℕ) (ls : List Link) → AllLinked n ls → AllLinked (n + 1) ls
-linked-among_more n ls a k h = let l = a k h in (omega arith, omega arith, l.2, l.3)
+pub linked_among_more : (n : ℕ) (ls : List Link) → AllLinked n ls → AllLinked (n + 1) ls
+linked_among_more n ls a k h = let l = a k h in (omega arith, omega arith, l.2, l.3)
 
 -- the links from place i on: the one at i, or one after it
 pub has_link_step : (ls : List Link) (i a b : ℕ) (t : Bool) → i < length ls → (eqb (link ls i).from a && eqb (link ls i).to b) ≡ t → has_link (drop i ls) a b ≡ (t || has_link (drop (i + 1) ls) a b)

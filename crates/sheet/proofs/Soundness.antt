@@ -4,16 +4,16 @@ use Rattle.sheet.specs.declared.table.Sheet.{Sheet}
 use Rattle.sheet.specs.Sheets.{entries}
 use Rattle.sheet.specs.Sound.{Sound, AllLinked}
 
-pub job-count : (s : Sheet) → length (entries s).jobs ≡ s.job_count
-job-count s = length-take-le s.job_count s.jobs (omega arith)
+pub job_count_lem : (s : Sheet) → length (entries s).jobs ≡ s.job_count
+job_count_lem s = length-take-le s.job_count s.jobs (omega arith)
 
-pub link-count : (s : Sheet) → length (entries s).links ≡ s.link_count
-link-count s = length-take-le s.link_count s.links (omega arith)
+pub link_count_lem : (s : Sheet) → length (entries s).links ≡ s.link_count
+link_count_lem s = length-take-le s.link_count s.links (omega arith)
 
-pub sheet-sound : (s : Sheet) → Sound (entries s)
-sheet-sound s = record {
-  few_jobs = omega (arith, job-count s);
-  few_links = omega (arith, link-count s);
+pub sheet_sound : (s : Sheet) → Sound (entries s)
+sheet_sound s = record {
+  few_jobs = omega (arith, job_count_lem s);
+  few_links = omega (arith, link_count_lem s);
   entered = s.entered;
-  linked = subst (λ (n : ℕ). AllLinked n (entries s).links) (sym (job-count s)) s.linked;
+  linked = subst (λ (n : ℕ). AllLinked n (entries s).links) (sym (job_count_lem s)) s.linked;
 }

@@ -4,7 +4,7 @@ use Rattle.sheet.specs.declared.refusal.Refusal.{Refusal}
 use Rattle.sheet.specs.Entries.{Entries, no_entries, with_job, with_link}
 use Rattle.sheet.specs.Entering.{enter_answer, link_answer}
 use Rattle.sheet.specs.Sound.{Sound}
-use Rattle.sheet.proofs.Accepting.{none-sound, enter_sound, link-sound}
+use Rattle.sheet.proofs.Accepting.{none_sound, enter_sound, link_sound}
 use Rattle.slip.specs.declared.fault.Fault.{Fault}
 use Rattle.slip.specs.declared.fault.Fault.TheVariants.{TooLong, Unfinished, BadLetter, BadFields, UntrueTrailer, Refused}
 use Rattle.slip.specs.Adding.{add_job, add_link, add_all, Enterable}
@@ -22,8 +22,8 @@ pub enterable_sound : (b : Entries) → Enterable b → Sound b
 enterable_sound b e =
     let d = then_ok _ _ b e in
     let jobs : Sound d.0 =
-    all_sound add_job (λ x y j s q. let r = unless_refused_ok (enter_answer x j) (with_job x j) y q in subst Sound r.2 (enter_sound x j r.0 s r.1)) b.jobs no_entries d.0 none-sound d.1 in
-    all_sound add_link (λ x y l s q. let r = unless_refused_ok (link_answer x l) (with_link x l) y q in subst Sound r.2 (link-sound x l s r.1)) b.links d.0 b jobs d.2
+    all_sound add_job (λ x y j s q. let r = unless_refused_ok (enter_answer x j) (with_job x j) y q in subst Sound r.2 (enter_sound x j r.0 s r.1)) b.jobs no_entries d.0 none_sound d.1 in
+    all_sound add_link (λ x y l s q. let r = unless_refused_ok (link_answer x l) (with_link x l) y q in subst Sound r.2 (link_sound x l s r.1)) b.links d.0 b jobs d.2
 
 line_has_line : (b : Entries) (line : List ℕ) (n : ℕ) (f : Fault) → LineHas b line n f → fault_line f ≡ n
 line_has_line b line n TooLong h = absurd h

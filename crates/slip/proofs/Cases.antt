@@ -13,7 +13,7 @@ use Rattle.slip.specs.Reading.{or_bad_fields, true_figures, kind_of}
 use Rattle.slip.specs.Texts.{jobs_text, trailer_fields}
 use Rattle.slip.specs.Faulty.{IllWritten}
 use Rattle.text.proofs.Spacing.{three_places}
-use Rattle.slip.proofs.Spelling.{Spells, spells_fields, ill_from-none}
+use Rattle.slip.proofs.Spelling.{Spells, spells_fields, ill_from_none}
 
 -- a letter that begins no line
 abbrev pub NoKind : ℕ → Bool → Type 0
@@ -35,7 +35,7 @@ kind_none x linked h = kind_cases x linked (λ k. k ≡ None) (λ e f. absurd (h
 
 by_fields : (k n : ℕ) (fs : List ℕ) (made : List ℕ → Result Entries Fault) (P : Result Entries Fault → Type 0) (o : Option (List ℕ)) → fields k fs ≡ o → 0 < k
     → (IllWritten k fs → P (Err (BadFields n))) → ((ns : List ℕ) → Spells k fs ns → P (made ns)) → P (then (or_bad_fields n o) made)
-by_fields k n fs made P None q h ill well = ill (ill_from-none k fs h q)
+by_fields k n fs made P None q h ill well = ill (ill_from_none k fs h q)
 by_fields k n fs made P (Some ns) q h ill well = well ns (spells_fields k fs ns q)
 
 -- ill written, or spelling k numbers

@@ -14,7 +14,7 @@ use Rattle.slip.specs.Faulty.{FirstFault, Faulty}
 use Rattle.slip.specs.Laws.{ReaderLaw}
 use Rattle.slip.proofs.Results.{err_ok, err_same}
 use Rattle.slip.proofs.Walk.{ComesTo, read_lines_comes_to}
-use Rattle.slip.proofs.Telling.{read-text, tell_first_fault}
+use Rattle.slip.proofs.Telling.{read_text, tell_first_fault}
 
 abbrev Means : List ℕ → Result Entries Fault → Type 0
 Means bytes (Ok b) = SlipOf bytes b
@@ -30,31 +30,31 @@ read_means bytes =
     (λ l. inl (ltb-true longest_slip (length bytes) l, refl))
     (λ l. not_too_long bytes (read_lines start no_entries (split line_end bytes)) (ltb-false longest_slip (length bytes) l) (read_lines_comes_to bytes))
 
-slip_is-read : (bytes : List ℕ) (b : Entries) → SlipOf bytes b → read bytes ≡ Ok b
-slip_is-read bytes b s =
+slip_is_read : (bytes : List ℕ) (b : Entries) → SlipOf bytes b → read bytes ≡ Ok b
+slip_is_read bytes b s =
     let l : ltb longest_slip (length bytes) ≡ false = le-ltb longest_slip (length bytes) s.2 in
-    rw l (ap (λ (u : List ℕ). read_lines start no_entries (split line_end u)) s.0 ∙ read-text b s.1 (subst (λ (u : List ℕ). length u ≤ longest_slip) s.0 s.2))
+    rw l (ap (λ (u : List ℕ). read_lines start no_entries (split line_end u)) s.0 ∙ read_text b s.1 (subst (λ (u : List ℕ). length u ≤ longest_slip) s.0 s.2))
 
-fault_is-read : (bytes : List ℕ) (f : Fault) → Faulty bytes f → read bytes ≡ Err f
-fault_is-read bytes f w =
+fault_is_read : (bytes : List ℕ) (f : Fault) → Faulty bytes f → read bytes ≡ Err f
+fault_is_read bytes f w =
     ⊎_elim
     (λ (x : (longest_slip < length bytes) × (f ≡ TooLong)). let l : ltb longest_slip (length bytes) ≡ true = lt-ltb longest_slip (length bytes) x.0 in rw l (ap (λ (g : Fault). Err g) (sym x.1)))
     (λ (x : (length bytes ≤ longest_slip) × FirstFault bytes f). let l : ltb longest_slip (length bytes) ≡ false = le-ltb longest_slip (length bytes) x.0 in rw l (tell_first_fault bytes f x.0 x.1))
     w
 
 -- what was read, from the answer and what the sheet then holds
-read-from_ok : (x : Result Entries Fault) (r : Result (Unit {0}) Fault) (b : Entries) → r ≡ unless_refused x tt → b ≡ left_entries x → r ≡ Ok tt → x ≡ Ok b
-read-from_ok (Ok y) r b e f g = ap (λ (z : Entries). Ok z) (sym f)
-read-from_ok (Err y) r b e f g = err_ok y tt (sym e ∙ g)
+read_from_ok : (x : Result Entries Fault) (r : Result (Unit {0}) Fault) (b : Entries) → r ≡ unless_refused x tt → b ≡ left_entries x → r ≡ Ok tt → x ≡ Ok b
+read_from_ok (Ok y) r b e f g = ap (λ (z : Entries). Ok z) (sym f)
+read_from_ok (Err y) r b e f g = err_ok y tt (sym e ∙ g)
 
-read-from_err : (x : Result Entries Fault) (r : Result (Unit {0}) Fault) (f : Fault) → r ≡ unless_refused x tt → r ≡ Err f → x ≡ Err f
-read-from_err (Ok y) r f e g = err_ok f tt (sym (sym e ∙ g))
-read-from_err (Err y) r f e g = ap (λ (z : Fault). Err z) (err_same {A = Unit {0}} y f (sym e ∙ g))
+read_from_err : (x : Result Entries Fault) (r : Result (Unit {0}) Fault) (f : Fault) → r ≡ unless_refused x tt → r ≡ Err f → x ≡ Err f
+read_from_err (Ok y) r f e g = err_ok f tt (sym (sym e ∙ g))
+read_from_err (Err y) r f e g = ap (λ (z : Fault). Err z) (err_same {A = Unit {0}} y f (sym e ∙ g))
 
 pub reader_law : (bytes : List ℕ) (r : Result (Unit {0}) Fault) (after : Entries) → r ≡ unless_refused (read bytes) tt → after ≡ left_entries (read bytes) → ReaderLaw bytes r after
 reader_law bytes r after e f = record {
-  taken_only_slips = λ g. subst (Means bytes) (read-from_ok (read bytes) r after e f g) (read_means bytes);
-  slips_are_taken = λ b s. (e ∙ ap (λ (x : Result Entries Fault). unless_refused x tt) (slip_is-read bytes b s), f ∙ ap left_entries (slip_is-read bytes b s));
-  told_only_faults = λ g q. let x = read-from_err (read bytes) r g e q in (subst (Means bytes) x (read_means bytes), f ∙ ap left_entries x);
-  faults_are_told = λ g w. (e ∙ ap (λ (x : Result Entries Fault). unless_refused x tt) (fault_is-read bytes g w), f ∙ ap left_entries (fault_is-read bytes g w));
+  taken_only_slips = λ g. subst (Means bytes) (read_from_ok (read bytes) r after e f g) (read_means bytes);
+  slips_are_taken = λ b s. (e ∙ ap (λ (x : Result Entries Fault). unless_refused x tt) (slip_is_read bytes b s), f ∙ ap left_entries (slip_is_read bytes b s));
+  told_only_faults = λ g q. let x = read_from_err (read bytes) r g e q in (subst (Means bytes) x (read_means bytes), f ∙ ap left_entries x);
+  faults_are_told = λ g w. (e ∙ ap (λ (x : Result Entries Fault). unless_refused x tt) (fault_is_read bytes g w), f ∙ ap left_entries (fault_is_read bytes g w));
 }

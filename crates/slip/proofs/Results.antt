@@ -19,9 +19,9 @@ pub then_same : {A B E : Type 0} (r : Result A E) (f g : A → Result B E) → (
 then_same (Ok a) f g h = h a
 then_same (Err e) f g h = refl
 
-pub then-then : {A B C E : Type 0} (r : Result A E) (f : A → Result B E) (g : B → Result C E) → then (then r f) g ≡ then r (λ a. then (f a) g)
-then-then (Ok a) f g = refl
-then-then (Err e) f g = refl
+pub then_then : {A B C E : Type 0} (r : Result A E) (f : A → Result B E) (g : B → Result C E) → then (then r f) g ≡ then r (λ a. then (f a) g)
+then_then (Ok a) f g = refl
+then_then (Err e) f g = refl
 
 pub then_ok_itself : {A E : Type 0} (r : Result A E) → then r (λ a. Ok a) ≡ r
 then_ok_itself (Ok a) = refl

@@ -65,11 +65,11 @@ stands_link at b l n i s =
     let m = length_push b.links l in
     record { line_is = omega arith; not_ended = i.not_ended; first_link = inr (push_some b.links l, ap (λ (p : ℕ). Some p) (jobs_end at b i)); sound = s }
 
-pub lines_text-job : (b : Entries) (j : Job) → b.links ≡ [] → lines_text b ++ job_text j ≡ lines_text (with_job b j)
-lines_text-job b j n =
+pub lines_text_job : (b : Entries) (j : Job) → b.links ≡ [] → lines_text b ++ job_text j ≡ lines_text (with_job b j)
+lines_text_job b j n =
     let x : links_text b ≡ [] = ap (flat_map link_text) n in
     ap (λ (t : List ℕ). (jobs_text b ++ t) ++ job_text j) x ∙ ap (λ (t : List ℕ). t ++ job_text j) (append-nil (jobs_text b)) ∙ sym (joined_push job_text b.jobs j)
     ∙ sym (append-nil (flat_map job_text (b.jobs ++ (j ∷ [])))) ∙ ap (λ (t : List ℕ). flat_map job_text (b.jobs ++ (j ∷ [])) ++ t) (sym x)
 
-pub lines_text-link : (b : Entries) (l : Link) → lines_text b ++ link_text l ≡ lines_text (with_link b l)
-lines_text-link b l = append_assoc (jobs_text b) (links_text b) (link_text l) ∙ ap (λ (t : List ℕ). jobs_text b ++ t) (sym (joined_push link_text b.links l))
+pub lines_text_link : (b : Entries) (l : Link) → lines_text b ++ link_text l ≡ lines_text (with_link b l)
+lines_text_link b l = append_assoc (jobs_text b) (links_text b) (link_text l) ∙ ap (λ (t : List ℕ). jobs_text b ++ t) (sym (joined_push link_text b.links l))

@@ -17,11 +17,11 @@ use Rattle.slip.specs.Reading.{job_from, link_from, place_or, start, past_job, p
 use Rattle.text.specs.Spaced.{spaced}
 use Rattle.slip.specs.Texts.{line_text, job_fields, link_fields, jobs_text, links_text, trailer_fields, text}
 use Rattle.slip.specs.Faulty.{lines_text, line_count, FiveDigits, LineHas, FirstFault}
-use Rattle.sheet.proofs.Accepting.{none-sound, enter_sound, link-sound}
-use Rattle.text.proofs.Splits.{rejoined, rejoined-split, AllWithout, split_without}
+use Rattle.sheet.proofs.Accepting.{none_sound, enter_sound, link_sound}
+use Rattle.text.proofs.Splits.{rejoined, rejoined_split, AllWithout, split_without}
 use Rattle.text.proofs.Spacing.{three_places, four_places}
 use Rattle.slip.proofs.Entered.{enterable_job, enterable_link}
-use Rattle.slip.proofs.Standing.{Unlinked, Stands, jobs_end, unlinked_by_mark, unlinked_by_links, stands_job, stands_link, lines_text-job, lines_text-link}
+use Rattle.slip.proofs.Standing.{Unlinked, Stands, jobs_end, unlinked_by_mark, unlinked_by_links, stands_job, stands_link, lines_text_job, lines_text_link}
 use Rattle.slip.proofs.Cases.{kind_cases, fields_cases, figures_true, figures_are}
 
 abbrev pub ComesTo : List ℕ → Result Entries Fault → Type 0
@@ -59,48 +59,48 @@ module _ (bytes : List ℕ) (ps : Parts) (at : Progress) (b : Entries) (i : Stan
   Read k = ComesTo bytes (then (read_kind at b k fs) (λ s. read_lines s.0 s.1 ps))
 
   -- what comes of the line by what it makes of the sheet
-  abbrev Goes_on : Progress → Result Entries Fault → Type 0
-  Goes_on to v = ComesTo bytes (then (then {B = Progress × Entries} v (λ c. Ok (to, c))) (λ s. read_lines s.0 s.1 ps))
+  abbrev GoesOn : Progress → Result Entries Fault → Type 0
+  GoesOn to v = ComesTo bytes (then (then {B = Progress × Entries} v (λ c. Ok (to, c))) (λ s. read_lines s.0 s.1 ps))
 
   fault : (x : ℕ) (f : Fault) → Line x → LineHas b (x ∷ fs) (line_count b + 1) f → FirstFault bytes f
   fault x f e w = (b, t, inr (inl (x ∷ fs, rejoined line_end ps, e.0, e.1, w)))
 
   walk_job : (x : ℕ) → Line x → x ≡ letter_J → Unlinked at b → Walks ps bytes → Read (Some JobLine)
   walk_job x e f u go =
-      fields_cases 4 at.line fs (λ ns. or_refused at.line (add_job b (job_from ns))) (Goes_on (past_job at (length fs))) (omega arith)
+      fields_cases 4 at.line fs (λ ns. or_refused at.line (add_job b (job_from ns))) (GoesOn (past_job at (length fs))) (omega arith)
       (λ ill. fault x _ e (i.line_is, inl (f, u.1, ill)))
       (λ ns s.
       let j = job_from ns in
       let q : ns ≡ job_fields j = four_places ns s.1 in
       let h : fs ≡ spaced (job_fields j) = s.0 ∙ ap spaced q in
-      elim (enter_answer b j) as (λ v. enter_answer b j ≡ v → Goes_on (past_job at (length fs)) (or_refused at.line (unless_refused v (with_job b j)))) [
+      elim (enter_answer b j) as (λ v. enter_answer b j ≡ v → GoesOn (past_job at (length fs)) (or_refused at.line (unless_refused v (with_job b j)))) [
         | Ok k ↦ λ a. go (past_job at (length fs)) (with_job b j) (stands_job at b j fs i u (enter_sound b j k i.sound a) h)
             (enterable_job b j (with_job b j) u.1 t (ap (λ (r : Result ℕ _). unless_refused r (with_job b j)) a))
-            (one_line_on bytes (lines_text b) fs (job_fields j) (rejoined line_end ps) (lines_text (with_job b j)) x letter_J e.0 f h (lines_text-job b j u.1))
+            (one_line_on bytes (lines_text b) fs (job_fields j) (rejoined line_end ps) (lines_text (with_job b j)) x letter_J e.0 f h (lines_text_job b j u.1))
         | Err d ↦ λ a. fault x _ e (i.line_is, inl (j, rw (f, h), subst FiveDigits q s.2, u.1, a))
       ] refl)
 
   walk_link : (x : ℕ) → Line x → x ≡ letter_L → Walks ps bytes → Read (Some LinkLine)
   walk_link x e f go =
-      fields_cases 3 at.line fs (λ ns. or_refused at.line (add_link b (link_from ns))) (Goes_on (past_link at (length fs))) (omega arith)
+      fields_cases 3 at.line fs (λ ns. or_refused at.line (add_link b (link_from ns))) (GoesOn (past_link at (length fs))) (omega arith)
       (λ ill. fault x _ e (i.line_is, inr (inl f, ill)))
       (λ ns s.
       let l = link_from ns in
       let q : ns ≡ link_fields l = three_places ns s.1 in
       let h : fs ≡ spaced (link_fields l) = s.0 ∙ ap spaced q in
-      elim (link_answer b l) as (λ v. link_answer b l ≡ v → Goes_on (past_link at (length fs)) (or_refused at.line (unless_refused v (with_link b l)))) [
-        | Ok k ↦ λ a. go (past_link at (length fs)) (with_link b l) (stands_link at b l (length fs) i (link-sound b l i.sound a))
+      elim (link_answer b l) as (λ v. link_answer b l ≡ v → GoesOn (past_link at (length fs)) (or_refused at.line (unless_refused v (with_link b l)))) [
+        | Ok k ↦ λ a. go (past_link at (length fs)) (with_link b l) (stands_link at b l (length fs) i (link_sound b l i.sound a))
             (enterable_link b l (with_link b l) t (ap (λ (r : Result (Unit {0}) _). unless_refused r (with_link b l)) a))
-            (one_line_on bytes (lines_text b) fs (link_fields l) (rejoined line_end ps) (lines_text (with_link b l)) x letter_L e.0 f h (lines_text-link b l))
+            (one_line_on bytes (lines_text b) fs (link_fields l) (rejoined line_end ps) (lines_text (with_link b l)) x letter_L e.0 f h (lines_text_link b l))
         | Err d ↦ λ a. fault x _ e (i.line_is, inr (l, rw (f, h), subst FiveDigits q s.2, a))
       ] refl)
 
   walk_trailer : (x : ℕ) → Line x → x ≡ letter_E → AllWithout line_end ps → Read (Some Trailer)
   walk_trailer x e f w =
-      fields_cases 3 at.line fs (λ ns. cond (true_figures b (place_or at.linked at.place) ns) (Ok b) (Err (UntrueTrailer at.line))) (Goes_on (past_trailer at (length fs))) (omega arith)
+      fields_cases 3 at.line fs (λ ns. cond (true_figures b (place_or at.linked at.place) ns) (Ok b) (Err (UntrueTrailer at.line))) (GoesOn (past_trailer at (length fs))) (omega arith)
       (λ ill. fault x _ e (i.line_is, inr (inr f, ill)))
       (λ ns s. rw (jobs_end at b i)
-      (cond_both (true_figures b (length (jobs_text b)) ns) (Ok b) (Err (UntrueTrailer at.line)) (Goes_on (past_trailer at (length fs)))
+      (cond_both (true_figures b (length (jobs_text b)) ns) (Ok b) (Err (UntrueTrailer at.line)) (GoesOn (past_trailer at (length fs)))
       (λ v. let l = i.line_is in
       after_trailer ps (past_trailer at (length fs)) b bytes refl (omega arith) t w
       (one_line_on bytes (lines_text b) fs (trailer_fields b) (rejoined line_end ps) (text b) x letter_E e.0 f (s.0 ∙ ap spaced (figures_are b ns s.1 v)) (lines_and_trailer b)))
@@ -120,8 +120,8 @@ walk (next (x ∷ fs) ps) bytes w at b i t e =
     (λ n. fault bytes ps at b i t fs x _ (e, w.0) (i.line_is, (λ f z. n.0 f (ap (λ (o : Option ℕ). is_some o) (unlinked_by_links at b i z).0), n.1, n.2))))
 
 -- the reader starts after no lines
-pub stands_at-start : Stands start no_entries
-stands_at-start = record { line_is = refl; not_ended = refl; first_link = inl (refl, refl, refl); sound = none-sound }
+pub stands_at_start : Stands start no_entries
+stands_at_start = record { line_is = refl; not_ended = refl; first_link = inl (refl, refl, refl); sound = none_sound }
 
 pub read_lines_comes_to : (bytes : List ℕ) → ComesTo bytes (read_lines start no_entries (split line_end bytes))
-read_lines_comes_to bytes = walk (split line_end bytes) bytes (split_without line_end bytes) start no_entries stands_at-start refl (sym (rejoined-split line_end bytes))
+read_lines_comes_to bytes = walk (split line_end bytes) bytes (split_without line_end bytes) start no_entries stands_at_start refl (sym (rejoined_split line_end bytes))

@@ -82,7 +82,9 @@ fn read_kind(
     kind: Option<Kind>,
     text: &[u8],
 ) -> Result<Progress, Fault>
-    requires { (at.line ≤ longest_slip + 1) × ((at.place ≤ longest_slip) × (length text.now ≤ longest_slip)) }
+    requires line { at.line ≤ longest_slip + 1 }
+    requires place { at.place ≤ longest_slip }
+    requires short { length text.now ≤ longest_slip }
     ensures { with_entries result (entries sheet.new) ≡ read_kind at (entries sheet.old) kind text.now }
 {
     let line = at.line + 1;
@@ -119,7 +121,9 @@ fn read_kind(
 
 /// One finished line.
 pub(crate) fn read_line(sheet: &mut Sheet, at: Progress, line: &[u8]) -> Result<Progress, Fault>
-    requires { (at.line ≤ longest_slip + 1) × ((at.place ≤ longest_slip) × (length line.now ≤ longest_slip)) }
+    requires line { at.line ≤ longest_slip + 1 }
+    requires place { at.place ≤ longest_slip }
+    requires short { length line.now ≤ longest_slip }
     ensures { with_entries result (entries sheet.new) ≡ read_line at (entries sheet.old) line.now }
 {
     if line.len() == 0 {

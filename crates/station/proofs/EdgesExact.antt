@@ -8,13 +8,13 @@ use Rattle.station.specs.Edges.{earliest_completion, edges_earliest, edges_overl
 use Rattle.station.specs.EdgesPasses.{completion_before, completion_by, ends_by, passes_end, raised_by_all, raised_by_both, raised_by_earlier, raised_by_later, work_of}
 use Rattle.station.specs.Sets.{any, est, lct, nonempty, others, sublists, work}
 use Rattle.station.specs.Tasks.{Fit, Formed, at, no_task}
-use Rattle.station.specs.Bounds.{any_in, any_none, any-not, at_least_ge, at_least_sublist, at_least-sublists, est_first, est-rest, est_sublist, greatest_in, lct_sublist, least_ge}
+use Rattle.station.specs.Bounds.{any_in, any_none, any_not, at_least_ge, at_least_sublist, at_least_sublists, est_first, est_rest, est_sublist, greatest_in, lct_sublist, least_ge}
 use Rattle.station.proofs.EdgesFigures.{FirstOf, Reached, Rising, before_by, before_completion, before_from, by_inner, completion_from, completion_ge, first_or_none, inner, inner_by}
-use Rattle.station.proofs.Intervals.{inside_fact, inside-from, kept_each, kept-lct, kept-least, set-inside}
+use Rattle.station.proofs.Intervals.{inside_fact, inside_from, kept_each, kept_lct, kept_least, set_inside}
 use Rattle.station.specs.Members.{In, Sublist, all_from, all_in, all_sublist, all_sublists, at_in, in_at, in_drop, in_kept, in_nonempty, in_sublist, in_sublists, sublist_kept, sublist_trans, there}
 use Rattle.station.specs.Pairwise.{pairwise_at, pairwise_behind, pairwise_drop, pairwise_one}
 use Rattle.station.proofs.Shuffles.{Same}
-use Rattle.station.specs.Works.{total-drop, work_behind, work-kept, work_of-kept, work-some, work_sublist, work_with}
+use Rattle.station.specs.Works.{total_drop, work_behind, work_kept, work_of_kept, work_some, work_sublist, work_with}
 
 module _ (L U : List Task) (same : Same L U) (formed : Formed L) where
   spans : AllByRecursion (λ t. 1 ≤ t.span) L
@@ -27,7 +27,7 @@ module _ (L U : List Task) (same : Same L U) (formed : Formed L) where
   -- a set within an interval has no more work than the whole interval
   cover : (S : List Task) (a b : ℕ) → Sublist S L → nonempty S ≡ true → a ≤ est S → lct S ≤ b → (work S ≤ work_of (inner a b) U) × (0 < work S)
   cover S a b p e h k =
-      (omega (arith, work_sublist (inner a b) p (set-inside (λ t. t.lo) a b S e h k), either a b), work-some S e (all_sublist _ p spans))
+      (omega (arith, work_sublist (inner a b) p (set_inside (λ t. t.lo) a b S e h k), either a b), work_some S e (all_sublist _ p spans))
 
   -- where no figure passes its end, no set overloads
   pub roomy : ((t : Task) → In t U → completion_by t.end U ≤ t.end) → (S : List Task) → Sublist S L → nonempty S ≡ true → est S + work S ≤ lct S
@@ -55,15 +55,15 @@ module _ (L U : List Task) (same : Same L U) (formed : Formed L) where
       let t = r.task in
       let a = t.lo in
       let S : List Task = filter (inner a b) L in
-      let e : nonempty S ≡ true = in_nonempty (in_kept (inner a b) (same.from t r.within) (inside-from (λ t. t.lo) a b t (omega arith) r.ends)) in
-      any_in overloads (in_sublists (sublist_kept (inner a b) L)) (and_from _ _ e (lt-ltb _ _ (omega (arith, r.top, work-kept (inner a b) L, either a b, kept-least (λ t. t.lo) a b L e, kept-lct (λ t. t.lo) a b L)))))
+      let e : nonempty S ≡ true = in_nonempty (in_kept (inner a b) (same.from t r.within) (inside_from (λ t. t.lo) a b t (omega arith) r.ends)) in
+      any_in overloads (in_sublists (sublist_kept (inner a b) L)) (and_from _ _ e (lt-ltb _ _ (omega (arith, r.top, work_kept (inner a b) L, either a b, kept_least (λ t. t.lo) a b L e, kept_lct (λ t. t.lo) a b L)))))
       (completion_from b U s)
 
   pub overload_exact : Rising U → any (passes_end U) U ≡ edges_overloaded L
   overload_exact s =
       ⊎_elim
       (λ (e : any (passes_end U) U ≡ true). e ∙ sym (found U (λ t m. m) e))
-      (λ (e : any (passes_end U) U ≡ false). e ∙ sym (not_overloaded (λ t m. ltb-false _ _ (any-not (passes_end U) e m))))
+      (λ (e : any (passes_end U) U ≡ false). e ∙ sym (not_overloaded (λ t m. ltb-false _ _ (any_not (passes_end U) e m))))
       (cases_Bool (any (passes_end U) U))
     where
       found : (V : List Task) → ((t : Task) → In t V → In t U) → any (passes_end U) V ≡ true → edges_overloaded L ≡ true
@@ -86,19 +86,19 @@ module _ (L U : List Task) (same : Same L U) (formed : Formed L) where
       (cases_Bool (other t))) in
       let S : List Task = filter (inner a b) M in
       let T : List Task = filter (inner a' b) S in
-      let it : inner a b t ≡ true = inside-from (λ t. t.lo) a b t (omega arith) tb in
+      let it : inner a b t ≡ true = inside_from (λ t. t.lo) a b t (omega arith) tb in
       let mL : In t L = same.from t tU in
       let mM : In t M = in_kept other mL (all_in (λ t. inner a b t ≡ true → other t ≡ true) mL (free a) it) in
       let mS : In t S = in_kept (inner a b) mM it in
-      let nT : nonempty T ≡ true = in_nonempty (in_kept (inner a' b) mS (inside-from (λ t. t.lo) a' b t ta tb)) in
-      let wS : work S ≡ work_of (inner a b) U = work-kept (inner a b) M ∙ work_of-kept (inner a b) other L (free a) ∙ either a b in
-      let down : AllByRecursion (λ t. inner a' b t ≡ true → inner a b t ≡ true) M = all_from _ M (λ t m e. let f = inside_fact (λ t. t.lo) a' b t e in inside-from (λ t. t.lo) a b t (omega (arith, f.0)) f.1) in
-      let wT : work T ≡ work_of (inner a' b) U = work-kept (inner a' b) S ∙ work_of-kept (inner a' b) (inner a b) M down ∙ work_of-kept (inner a' b) other L (free a') ∙ either a' b in
+      let nT : nonempty T ≡ true = in_nonempty (in_kept (inner a' b) mS (inside_from (λ t. t.lo) a' b t ta tb)) in
+      let wS : work S ≡ work_of (inner a b) U = work_kept (inner a b) M ∙ work_of_kept (inner a b) other L (free a) ∙ either a b in
+      let down : AllByRecursion (λ t. inner a' b t ≡ true → inner a b t ≡ true) M = all_from _ M (λ t m e. let f = inside_fact (λ t. t.lo) a' b t e in inside_from (λ t. t.lo) a b t (omega (arith, f.0)) f.1) in
+      let wT : work T ≡ work_of (inner a' b) U = work_kept (inner a' b) S ∙ work_of_kept (inner a' b) (inner a b) M down ∙ work_of_kept (inner a' b) other L (free a') ∙ either a' b in
       let eS : c ≤ est (i ∷ S) = least_ge (λ t. t.lo) (i ∷ S) c refl (ci, kept_each (λ t. t.lo) a b M c ca) in
-      let lS : lct S ≤ b = kept-lct (λ t. t.lo) a b M in
+      let lS : lct S ≤ b = kept_lct (λ t. t.lo) a b M in
       let x : earliest_completion S ≤ edges_earliest i L = at_least_sublist (ends_last i) earliest_completion i.lo (sublist_kept (inner a b) M) (and_from _ _ (in_nonempty mS) (lt-ltb _ _ (omega arith))) in
       let v : est T + work T ≤ earliest_completion S = at_least_sublist nonempty (λ T. est T + work T) 0 (sublist_kept (inner a' b) S) nT in
-      omega (arith, kept-least (λ t. t.lo) a' b S nT)
+      omega (arith, kept_least (λ t. t.lo) a' b S nT)
 
 -- what the passes for one end do to a bound
 module _ (b : ℕ) (U : List Task) (q : ℕ) where
@@ -163,8 +163,8 @@ module _ (L U : List Task) (same : Same L U) (formed : Formed L) (rising : Risin
   one : AllByRecursion (λ t. t.job ≡ (at U q).job → t.end ≡ (at U q).end) L
   one = all_from _ L (λ t m e. let p = pairwise_one L formed.distinct t (at U q) m inL e in ap (λ (s : Task). s.end) p)
 
-  later-sound : (b : ℕ) → b < (at U q).end → b < (at U q).lo + ((at U q).span + work_of (ends_by b) (drop (suc q) U)) → completion_by b (drop (suc q) U) ≤ edges_earliest (at U q) L
-  later-sound b bi h =
+  later_sound : (b : ℕ) → b < (at U q).end → b < (at U q).lo + ((at U q).span + work_of (ends_by b) (drop (suc q) U)) → completion_by b (drop (suc q) U) ≤ edges_earliest (at U q) L
+  later_sound b bi h =
       let i = at U q in
       let D : List Task = drop (suc q) U in
       let up : AllByRecursion (λ t. i.lo ≤ t.lo) D = pairwise_behind (λ s t. s.lo ≤ t.lo) q U inq rising in
@@ -173,8 +173,8 @@ module _ (L U : List Task) (same : Same L U) (formed : Formed L) (rising : Risin
       (λ (r : Reached b D).
       let t = r.task in
       justified L U same formed i one i.lo i.lo t.lo b (completion_by b D) (omega arith) (omega arith) (all_in (λ t. i.lo ≤ t.lo) r.within up) bi t (in_drop (suc q) U t r.within) (omega arith) r.ends
-      (omega (arith, by_inner i.lo b D up, total-drop (λ t. cond (inner i.lo b t) t.span 0) (suc q) U))
-      (omega (arith, r.top, total-drop (λ s. cond (inner t.lo b s) s.span 0) (suc q) U)))
+      (omega (arith, by_inner i.lo b D up, total_drop (λ t. cond (inner i.lo b t) t.span 0) (suc q) U))
+      (omega (arith, r.top, total_drop (λ s. cond (inner t.lo b s) s.span 0) (suc q) U)))
       (completion_from b D (pairwise_drop _ (suc q) U rising))
 
   earlier_sound : (b : ℕ) → b < (at U q).end → b < completion_before b U q + (at U q).span → completion_by b U ≤ edges_earliest (at U q) L
@@ -194,7 +194,7 @@ module _ (L U : List Task) (same : Same L U) (formed : Formed L) (rising : Risin
       let j = k.0 in
       let jq : j < q = k.1 in
       let jl : (at U j).lo ≤ i.lo = pairwise_at (λ s t. s.lo ≤ t.lo) U rising j q jq inq in
-      by (at U j).lo jl (omega arith) (omega (arith, k.3, by_inner (at U j).lo b (drop j U) (from_place j (omega arith)), total-drop (λ t. cond (inner (at U j).lo b t) t.span 0) j U)))
+      by (at U j).lo jl (omega arith) (omega (arith, k.3, by_inner (at U j).lo b (drop j U) (from_place j (omega arith)), total_drop (λ t. cond (inner (at U j).lo b t) t.span 0) j U)))
       (before_from b U q))
       (λ (l : t.lo ≤ i.lo). by t.lo l (omega arith) (omega (arith, before_completion b U q (omega arith), r.top)))
       (cases_lt i.lo t.lo))
@@ -203,8 +203,8 @@ module _ (L U : List Task) (same : Same L U) (formed : Formed L) (rising : Risin
       from_place : (j : ℕ) → j < length U → AllByRecursion (λ t. (at U j).lo ≤ t.lo) (drop j U)
       from_place j h = subst (λ (V : List Task). AllByRecursion (λ t. (at U j).lo ≤ t.lo) V) (sym (drop-cons U j no_task h)) (omega arith, pairwise_behind (λ s t. s.lo ≤ t.lo) j U h rising)
 
-  passes-sound : (n : ℕ) → raised_by_all U q n ≤ edges_earliest (at U q) L
-  passes-sound n = all_le U q n (edges_earliest (at U q) L) (at_least_ge _ _ _ (sublists (others (at U q) L))) (λ e x l k. both_le (at U e).end U q x _ k (later-sound (at U e).end) (earlier_sound (at U e).end))
+  passes_sound : (n : ℕ) → raised_by_all U q n ≤ edges_earliest (at U q) L
+  passes_sound n = all_le U q n (edges_earliest (at U q) L) (at_least_ge _ _ _ (sublists (others (at U q) L))) (λ e x l k. both_le (at U e).end U q x _ k (later_sound (at U e).end) (earlier_sound (at U e).end))
 
   -- a set that meets the condition, with its part T, where i may end after all of it
   reach : (e : ℕ) → e < length U → (at U e).end < (at U q).end → (S T : List Task) → Sublist S L → nonempty S ≡ true → lct S ≤ (at U e).end → Sublist T S → nonempty T ≡ true → (at U e).end < est (at U q ∷ S) + work (at U q ∷ S) → est T + work T ≤ raised_by_all U q (length U)
@@ -213,7 +213,7 @@ module _ (L U : List Task) (same : Same L U) (formed : Formed L) (rising : Risin
       let b = (at U e).end in
       let a = est S in
       let lo : est (i ∷ S) ≤ i.lo = est_first i S in
-      let aS : est (i ∷ S) ≤ a = est-rest i S nS in
+      let aS : est (i ∷ S) ≤ a = est_rest i S nS in
       let wS : work S ≤ work_of (inner a b) U = (cover L U same formed S a b pS nS (omega arith) l).0 in
       let aT : a ≤ est T = est_sublist pT nT in
       let cT = cover L U same formed T (est T) b (sublist_trans pS pT) nT (omega arith) (omega (arith, lct_sublist pT)) in
@@ -234,7 +234,7 @@ module _ (L U : List Task) (same : Same L U) (formed : Formed L) (rising : Risin
       let f = inside_fact (λ t. t.lo) a' b (at U k) y in
       ⊎_elim
       (λ (w : k ≡ q). omega (arith, f.1, ap (λ (j : ℕ). (at U j).end) w))
-      (λ (w : k ≡ q → ⊥). both_ways _ (c k (omega arith)) (inside-from (λ t. t.lo) a b (at U k) (omega (arith, f.0)) f.1))
+      (λ (w : k ≡ q → ⊥). both_ways _ (c k (omega arith)) (inside_from (λ t. t.lo) a b (at U k) (omega (arith, f.0)) f.1))
       (cases_eq k q)))
       (λ (y : inner a' b (at U k) ≡ false). y)
       (cases_Bool (inner a' b (at U k))) in
@@ -250,16 +250,16 @@ module _ (L U : List Task) (same : Same L U) (formed : Formed L) (rising : Risin
   cramped b rb bi S pS nS l h =
       let i = at U q in
       let a = est (i ∷ S) in
-      let w : i.span + work S ≤ work_of (inner a b) L = work_with (inner a b) i inL formed.distinct (inside-from (λ t. t.lo) a b i (est_first i S) bi) S pS (set-inside (λ t. t.lo) a b S nS (est-rest i S nS) l) in
-      let v : 0 < work S = work-some S nS (all_sublist _ (sublist_trans (sublist_kept _ L) pS) (spans L U same formed)) in
+      let w : i.span + work S ≤ work_of (inner a b) L = work_with (inner a b) i inL formed.distinct (inside_from (λ t. t.lo) a b i (est_first i S) bi) S pS (set_inside (λ t. t.lo) a b S nS (est_rest i S nS) l) in
+      let v : 0 < work S = work_some S nS (all_sublist _ (sublist_trans (sublist_kept _ L) pS) (spans L U same formed)) in
       omega (arith, either L U same formed a b, completion_ge b a U (omega (arith, either L U same formed a b)))
 
   -- every set that meets the condition, and every part of it, is covered
   passes_complete : ((t : Task) → In t U → completion_by t.end U ≤ t.end) → edges_earliest (at U q) L ≤ raised_by_all U q (length U)
   passes_complete room =
       let i = at U q in
-      at_least-sublists (ends_last i) earliest_completion i.lo (others i L) (raised_by_all U q (length U)) (all_ge U q (length U)) (λ S pS last.
-      at_least-sublists nonempty (λ T. est T + work T) 0 S (raised_by_all U q (length U)) (omega arith) (λ T pT nT.
+      at_least_sublists (ends_last i) earliest_completion i.lo (others i L) (raised_by_all U q (length U)) (all_ge U q (length U)) (λ S pS last.
+      at_least_sublists nonempty (λ T. est T + work T) 0 S (raised_by_all U q (length U)) (omega arith) (λ T pT nT.
       let c = and_parts _ _ last in
       let h : lct S < est (i ∷ S) + work (i ∷ S) = ltb-true _ _ c.1 in
       let sL : Sublist S L = sublist_trans (sublist_kept _ L) pS in
@@ -273,4 +273,4 @@ module _ (L U : List Task) (same : Same L U) (formed : Formed L) (rising : Risin
       (cases_lt (at U e).end i.end)))
 
   pub passes_exact : any (passes_end U) U ≡ false → raised_by_all U q (length U) ≡ edges_earliest (at U q) L
-  passes_exact r = omega (arith, passes_complete (λ t m. ltb-false _ _ (any-not (passes_end U) r m)), passes-sound (length U))
+  passes_exact r = omega (arith, passes_complete (λ t m. ltb-false _ _ (any_not (passes_end U) r m)), passes_sound (length U))

@@ -5,9 +5,9 @@ use Rattle.std.proofs.lemmas.Bool.{cases_Bool, cond-true, cond-false, cond_both,
 use Rattle.station.specs.declared.task.Task.{Task}
 use Rattle.station.specs.EdgesPasses.{completion_before, completion_by, ends_by, work_of}
 use Rattle.station.specs.Tasks.{Pairwise, at}
-use Rattle.station.proofs.Intervals.{inside, inside_fact, inside-from}
+use Rattle.station.proofs.Intervals.{inside, inside_fact, inside_from}
 use Rattle.station.specs.Members.{In, all_from, all_in, here, there}
-use Rattle.station.specs.Works.{span-no, span-yes, work_mono}
+use Rattle.station.specs.Works.{span_no, span_yes, work_mono}
 
 abbrev pub inner : ℕ → ℕ → Task → Bool
 inner a b = inside (λ t. t.lo) a b
@@ -40,9 +40,9 @@ module _ (b : ℕ) where
       ⊎_elim
       (λ (e : inner a b t ≡ true).
       let f = inside_fact (λ t. t.lo) a b t e in
-      omega (arith, f.0, span-yes (inner a b) t e, completion_yes t U f.1, inner_by a b U))
+      omega (arith, f.0, span_yes (inner a b) t e, completion_yes t U f.1, inner_by a b U))
       (λ (e : inner a b t ≡ false).
-      let z : cond (inner a b t) t.span 0 ≡ 0 = span-no (inner a b) t e in
+      let z : cond (inner a b t) t.span 0 ≡ 0 = span_no (inner a b) t e in
       let r : a + work_of (inner a b) U ≤ completion_by b U = completion_ge a U (omega arith) in
       omega (arith, completion_rest t U))
       (cases_Bool (inner a b t))
@@ -71,7 +71,7 @@ module _ (b : ℕ) where
         task = t;
         within = here;
         ends = e;
-        top = omega (arith, completion_yes t U e, by_inner t.lo b U s.0, span-yes (inner t.lo b) t (inside-from (λ t. t.lo) t.lo b t (omega arith) e));
+        top = omega (arith, completion_yes t U e, by_inner t.lo b U s.0, span_yes (inner t.lo b) t (inside_from (λ t. t.lo) t.lo b t (omega arith) e));
       }))
       (λ (h : t.lo + (t.span + work_of (ends_by b) U) ≤ completion_by b U). old (omega (arith, completion_yes t U e)))
       (cases_lt (completion_by b U) (t.lo + (t.span + work_of (ends_by b) U))))
@@ -123,7 +123,7 @@ module _ (b : ℕ) where
   -- a place's figure is no more than that of all
   place_completion : (U : List Task) (k : ℕ) → k < length U → (at U k).end ≤ b → (at U k).lo + work_of (ends_by b) (drop k U) ≤ completion_by b U
   place_completion [] k h e = absurd (omega arith)
-  place_completion (t ∷ U) zero h e = omega (arith, completion_yes t U e, span-yes (ends_by b) t (le-leb _ _ e))
+  place_completion (t ∷ U) zero h e = omega (arith, completion_yes t U e, span_yes (ends_by b) t (le-leb _ _ e))
   place_completion (t ∷ U) (suc k) h e = omega (arith, place_completion U k (omega arith) e, completion_rest t U)
 
   pub before_completion : (U : List Task) (q : ℕ) → q ≤ length U → completion_before b U q ≤ completion_by b U

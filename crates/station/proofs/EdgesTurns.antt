@@ -7,17 +7,17 @@ use Rattle.station.specs.Limits.{horizon, most_work}
 use Rattle.station.specs.Tasks.{Formed, at, no_task}
 use Rattle.station.proofs.EdgesFigures.{before_le, completion_no, completion_yes}
 use Rattle.station.specs.Members.{fit_at}
-use Rattle.station.proofs.Passes.{Pass, inside, pass_same, pass_set, same_figure, same-work}
+use Rattle.station.proofs.Passes.{Pass, inside, pass_same, pass_set, same_figure, same_work}
 use Rattle.station.proofs.Rewriting.{UpTo, up_none, up_same, up_set}
-use Rattle.station.specs.Works.{span-no, span-yes, work-here, work_most}
+use Rattle.station.specs.Works.{span_no, span_yes, work_here, work_most}
 
 -- one place further down
 module _ (b : ℕ) (U : List Task) (j : ℕ) (h : j < length U) where
-  pub work-held : (at U j).end ≤ b → work_of (ends_by b) (drop j U) ≡ (at U j).span + work_of (ends_by b) (drop (suc j) U)
-  work-held e = omega (arith, work-here (ends_by b) U j h, span-yes (ends_by b) (at U j) (le-leb _ _ e))
+  pub work_held : (at U j).end ≤ b → work_of (ends_by b) (drop j U) ≡ (at U j).span + work_of (ends_by b) (drop (suc j) U)
+  work_held e = omega (arith, work_here (ends_by b) U j h, span_yes (ends_by b) (at U j) (le-leb _ _ e))
 
   work_free : b < (at U j).end → work_of (ends_by b) (drop j U) ≡ work_of (ends_by b) (drop (suc j) U)
-  work_free e = omega (arith, work-here (ends_by b) U j h, span-no (ends_by b) (at U j) (lt-leb _ _ e))
+  work_free e = omega (arith, work_here (ends_by b) U j h, span_no (ends_by b) (at U j) (lt-leb _ _ e))
 
   completion_held : (at U j).end ≤ b → completion_by b (drop j U) ≡ max (completion_by b (drop (suc j) U)) ((at U j).lo + ((at U j).span + work_of (ends_by b) (drop (suc j) U)))
   completion_held e = ap (completion_by b) (drop-cons U j no_task h) ∙ completion_yes b (at U j) (drop (suc j) U) e
@@ -30,20 +30,20 @@ abbrev pub Later : ℕ → List Task → List ℕ → List ℕ → ℕ → ℕ �
 Later b U xs ys k w t = Pass (work_of (ends_by b)) (completion_by b) (raised_by_later b U) U xs ys k w t
 
 module _ (b : ℕ) (U : List Task) (xs ys : List ℕ) (k w t j : ℕ) (d : Later b U xs ys k w t) (s : k ≡ suc j) where
-  here-inside : j < length U
-  here-inside = inside _ _ _ _ _ _ _ _ _ _ d s
+  here_inside : j < length U
+  here_inside = inside _ _ _ _ _ _ _ _ _ _ d s
 
   behind_work : w ≡ work_of (ends_by b) (drop (suc j) U)
-  behind_work = same-work _ _ _ _ _ _ _ _ _ _ d s
+  behind_work = same_work _ _ _ _ _ _ _ _ _ _ d s
 
   behind_completion : t ≡ completion_by b (drop (suc j) U)
   behind_completion = same_figure _ _ _ _ _ _ _ _ _ _ d s
 
-  pub later-held : (at U j).end ≤ b → (r : ℕ) → r ≡ max t ((at U j).lo + (w + (at U j).span)) → Later b U xs ys j (w + (at U j).span) r
-  later-held e r rt =
+  pub later_held : (at U j).end ≤ b → (r : ℕ) → r ≡ max t ((at U j).lo + (w + (at U j).span)) → Later b U xs ys j (w + (at U j).span) r
+  later_held e r rt =
       pass_same _ _ _ U xs ys k w t j d s (w + (at U j).span) r
-      (omega (arith, behind_work, work-held b U j here-inside e))
-      (omega (arith, behind_work, behind_completion, completion_held b U j here-inside e))
+      (omega (arith, behind_work, work_held b U j here_inside e))
+      (omega (arith, behind_work, behind_completion, completion_held b U j here_inside e))
       (sym (cond-true (ends_by b (at U j)) _ _ (le-leb _ _ e)))
 
   abbrev needed : ℕ
@@ -55,12 +55,12 @@ module _ (b : ℕ) (U : List Task) (xs ys : List ℕ) (k w t j : ℕ) (d : Later
   pub later_raise : b < (at U j).end → b < (at U j).lo + (at U j).span + w → j < length ys → (x : ℕ) → x ≡ max (get_or ys j 0) t → Later b U xs (set ys j x) j w t
   later_raise e r l x xt =
       let z : cond (ltb b needed) (completion_by b (drop (suc j) U)) 0 ≡ completion_by b (drop (suc j) U) = cond-true (ltb b needed) _ _ (lt-ltb _ _ (omega (arith, behind_work))) in
-      pass_set _ _ _ U xs ys k w t j d s w t (behind_work ∙ sym (work_free b U j here-inside e)) (behind_completion ∙ sym (completion_free b U j here-inside e)) x l (omega (arith, raised e (get_or ys j 0), behind_completion))
+      pass_set _ _ _ U xs ys k w t j d s w t (behind_work ∙ sym (work_free b U j here_inside e)) (behind_completion ∙ sym (completion_free b U j here_inside e)) x l (omega (arith, raised e (get_or ys j 0), behind_completion))
 
   pub later_pass : b < (at U j).end → (at U j).lo + (at U j).span + w ≤ b → Later b U xs ys j w t
   later_pass e r =
       let z : cond (ltb b needed) (completion_by b (drop (suc j) U)) 0 ≡ 0 = cond-false (ltb b needed) _ _ (le-ltb _ _ (omega (arith, behind_work))) in
-      pass_same _ _ _ U xs ys k w t j d s w t (behind_work ∙ sym (work_free b U j here-inside e)) (behind_completion ∙ sym (completion_free b U j here-inside e)) (omega (arith, raised e (get_or ys j 0)))
+      pass_same _ _ _ U xs ys k w t j d s w t (behind_work ∙ sym (work_free b U j here_inside e)) (behind_completion ∙ sym (completion_free b U j here_inside e)) (omega (arith, raised e (get_or ys j 0)))
 
 -- the pass up has come to place k
 pub record Earlier (b : ℕ) (U : List Task) (xs ys : List ℕ) (k r p : ℕ) : Type 0 where
@@ -74,7 +74,7 @@ earlier_none b U xs w e = record { rest = e; peak = refl; lows = up_none 0 (rais
 module _ (b : ℕ) (U : List Task) (xs ys : List ℕ) (k r p : ℕ) (d : Earlier b U xs ys k r p) (h : k < length U) where
   pub earlier_held : (at U k).end ≤ b → (x : ℕ) → x ≡ max p ((at U k).lo + r) → Earlier b U xs ys (k + 1) (r - (at U k).span) x
   earlier_held e x xp = record {
-    rest = rw add-one (omega (arith, d.rest, work-held b U k h e));
+    rest = rw add-one (omega (arith, d.rest, work_held b U k h e));
     peak = rw add-one (omega (arith, d.rest, d.peak, cond-true (ends_by b (at U k)) (max (completion_before b U k) ((at U k).lo + work_of (ends_by b) (drop k U))) (completion_before b U k) (le-leb _ _ e)));
     lows = up_same 0 (raised_by_earlier b U) xs ys k d.lows (sym (cond-true (ends_by b (at U k)) _ _ (le-leb _ _ e)));
   }

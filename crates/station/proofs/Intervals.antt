@@ -15,23 +15,23 @@ module _ (f : Task → ℕ) (a b : ℕ) where
   pub inside_fact : (t : Task) → inside f a b t ≡ true → (a ≤ f t) × (t.end ≤ b)
   inside_fact t e = let p = and_parts _ _ e in (leb-true _ _ p.0, leb-true _ _ p.1)
 
-  pub inside-from : (t : Task) → a ≤ f t → t.end ≤ b → inside f a b t ≡ true
-  inside-from t h k = and_from _ _ (le-leb _ _ h) (le-leb _ _ k)
+  pub inside_from : (t : Task) → a ≤ f t → t.end ≤ b → inside f a b t ≡ true
+  inside_from t h k = and_from _ _ (le-leb _ _ h) (le-leb _ _ k)
 
   -- all that pass, as a set
   module _ (M : List Task) where
     passes : (t : Task) → In t (filter (inside f a b) M) → (a ≤ f t) × (t.end ≤ b)
     passes t m = inside_fact t (all_in (λ t. inside f a b t ≡ true) m (kept_by_passes (inside f a b) M))
 
-    pub kept-least : nonempty (filter (inside f a b) M) ≡ true → a ≤ least f (filter (inside f a b) M)
-    kept-least e = least_ge f _ a e (all_from _ _ (λ t m. (passes t m).0))
+    pub kept_least : nonempty (filter (inside f a b) M) ≡ true → a ≤ least f (filter (inside f a b) M)
+    kept_least e = least_ge f _ a e (all_from _ _ (λ t m. (passes t m).0))
 
     pub kept_each : (c : ℕ) → c ≤ a → AllByRecursion (λ t. c ≤ f t) (filter (inside f a b) M)
     kept_each c h = all_from _ _ (λ t m. omega (arith, (passes t m).0))
 
-    pub kept-lct : lct (filter (inside f a b) M) ≤ b
-    kept-lct = greatest_le (λ t. t.end) _ b (all_from _ _ (λ t m. (passes t m).1))
+    pub kept_lct : lct (filter (inside f a b) M) ≤ b
+    kept_lct = greatest_le (λ t. t.end) _ b (all_from _ _ (λ t m. (passes t m).1))
 
   -- a set within the interval
-  pub set-inside : (S : List Task) → nonempty S ≡ true → a ≤ least f S → lct S ≤ b → AllByRecursion (λ t. inside f a b t ≡ true) S
-  set-inside S e h k = all_from _ S (λ t m. inside-from t (omega (arith, least_le f m)) (omega (arith, greatest_ge (λ t. t.end) m)))
+  pub set_inside : (S : List Task) → nonempty S ≡ true → a ≤ least f S → lct S ≤ b → AllByRecursion (λ t. inside f a b t ≡ true) S
+  set_inside S e h k = all_from _ S (λ t m. inside_from t (omega (arith, least_le f m)) (omega (arith, greatest_ge (λ t. t.end) m)))

@@ -25,8 +25,8 @@ module _ (work figure : List Task → ℕ) (raised : ℕ → ℕ → ℕ) (U : L
     pub inside : j < length U
     inside = omega (arith, d.within)
 
-    pub same-work : w ≡ work (drop (suc j) U)
-    same-work = d.work_is ∙ ap (λ (n : ℕ). work (drop n U)) s
+    pub same_work : w ≡ work (drop (suc j) U)
+    same_work = d.work_is ∙ ap (λ (n : ℕ). work (drop n U)) s
 
     pub same_figure : t ≡ figure (drop (suc j) U)
     same_figure = d.figure_is ∙ ap (λ (n : ℕ). figure (drop n U)) s

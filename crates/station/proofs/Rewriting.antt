@@ -6,16 +6,16 @@ pub record Rewritten {X : Type 0} (d : X) (f : ℕ → X → X) (xs ys : List X)
   pub done : (q : ℕ) → Done q → get_or ys q d ≡ f q (get_or xs q d)
   pub left : (q : ℕ) → Left q → get_or ys q d ≡ get_or xs q d
 
-module _ {X : Type 0} (d : X) (f : ℕ → X → X) (xs ys : List X) (Done Left Done' Left' : ℕ → Type 0) (r : Rewritten d f xs ys Done Left) (j : ℕ) (now-left : Left j)
-    (was-done : (q : ℕ) → Done' q → (q ≡ j → ⊥) → Done q) (was-left : (q : ℕ) → Left' q → (q ≡ j → ⊥) × Left q) where
+module _ {X : Type 0} (d : X) (f : ℕ → X → X) (xs ys : List X) (Done Left Done' Left' : ℕ → Type 0) (r : Rewritten d f xs ys Done Left) (j : ℕ) (now_left : Left j)
+    (was_done : (q : ℕ) → Done' q → (q ≡ j → ⊥) → Done q) (was_left : (q : ℕ) → Left' q → (q ≡ j → ⊥) × Left q) where
   rewritten_at : (zs : List X) → get_or zs j d ≡ f j (get_or ys j d) → ((q : ℕ) → (q ≡ j → ⊥) → get_or zs q d ≡ get_or ys q d) → Rewritten d f xs zs Done' Left'
   rewritten_at zs new other = record {
     done = λ q h.
         ⊎_elim
-        (λ (e : q ≡ j). subst (λ (n : ℕ). get_or zs n d ≡ f n (get_or xs n d)) (sym e) (new ∙ ap (f j) (r.left j now-left)))
-        (λ (e : q ≡ j → ⊥). other q e ∙ r.done q (was-done q h e))
+        (λ (e : q ≡ j). subst (λ (n : ℕ). get_or zs n d ≡ f n (get_or xs n d)) (sym e) (new ∙ ap (f j) (r.left j now_left)))
+        (λ (e : q ≡ j → ⊥). other q e ∙ r.done q (was_done q h e))
         (cases_eq q j);
-    left = λ q h. let w = was-left q h in other q w.0 ∙ r.left q w.1;
+    left = λ q h. let w = was_left q h in other q w.0 ∙ r.left q w.1;
   }
 
   pub rewritten_set : (x : X) → j < length ys → x ≡ f j (get_or ys j d) → Rewritten d f xs (set ys j x) Done' Left'

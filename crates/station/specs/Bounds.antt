@@ -60,12 +60,12 @@ at_least_push f g x (b ∷ L) a =
 pub at_least_sublist : {X : Type 0} (f : List X → Bool) (g : List X → ℕ) (x : ℕ) {S L : List X} → Sublist S L → f S ≡ true → g S ≤ at_least f g x (sublists L)
 at_least_sublist f g x p e = at_least_by f g x (in_sublists p) e
 
-pub at_least-sublists : {X : Type 0} (f : List X → Bool) (g : List X → ℕ) (x : ℕ) (L : List X) (y : ℕ) → x ≤ y → ((S : List X) → Sublist S L → f S ≡ true → g S ≤ y) → at_least f g x (sublists L) ≤ y
-at_least-sublists f g x L y h k = at_least_le f g x (sublists L) y h (all_sublists L (λ S. f S ≡ true → g S ≤ y) k)
+pub at_least_sublists : {X : Type 0} (f : List X → Bool) (g : List X → ℕ) (x : ℕ) (L : List X) (y : ℕ) → x ≤ y → ((S : List X) → Sublist S L → f S ≡ true → g S ≤ y) → at_least f g x (sublists L) ≤ y
+at_least_sublists f g x L y h k = at_least_le f g x (sublists L) y h (all_sublists L (λ S. f S ≡ true → g S ≤ y) k)
 
 -- where to start from does not matter, if it is above one of them
-pub at_most-start : {X : Type 0} (f : X → Bool) (g : X → ℕ) (x y : ℕ) {a : X} {L : List X} → In a L → f a ≡ true → g a ≤ x → g a ≤ y → at_most f g x L ≡ at_most f g y L
-at_most-start f g x y {a} {L} m t h k =
+pub at_most_start : {X : Type 0} (f : X → Bool) (g : X → ℕ) (x y : ℕ) {a : X} {L : List X} → In a L → f a ≡ true → g a ≤ x → g a ≤ y → at_most f g x L ≡ at_most f g y L
+at_most_start f g x y {a} {L} m t h k =
     let one : (u w : ℕ) → g a ≤ u → g a ≤ w → at_most f g u L ≤ at_most f g w L = λ u w hu hw.
     at_most_ge f g w L (at_most f g u L) (let p : at_most f g u L ≤ g a = at_most_by f g u m t in omega arith) (all_from _ L (λ b n e. at_most_by f g u n e)) in
     let p : at_most f g x L ≤ at_most f g y L = one x y h k in
@@ -80,8 +80,8 @@ pub any_none : {X : Type 0} (f : X → Bool) (L : List X) → AllByRecursion (λ
 any_none f [] h = refl
 any_none f (a ∷ L) h = or_from _ _ h.0 (any_none f L h.1)
 
-pub any-not : {X : Type 0} (f : X → Bool) {a : X} {L : List X} → any f L ≡ false → In a L → f a ≡ false
-any-not f {a} {L} e m =
+pub any_not : {X : Type 0} (f : X → Bool) {a : X} {L : List X} → any f L ≡ false → In a L → f a ≡ false
+any_not f {a} {L} e m =
     ⊎_elim
     (λ (t : f a ≡ true). absurd (both_ways _ e (any_in f m t)))
     (λ (t : f a ≡ false). t)
@@ -139,5 +139,5 @@ est_sublist {T} {S} p e = least_ge (λ t. t.lo) T (est S) e (all_from _ T (λ t 
 pub est_first : (i : Task) (S : List Task) → est (i ∷ S) ≤ i.lo
 est_first i S = least_le (λ t. t.lo) {t = i} {S = i ∷ S} here
 
-pub est-rest : (i : Task) (S : List Task) → nonempty S ≡ true → est (i ∷ S) ≤ est S
-est-rest i S e = est_sublist (skip {x = i} (sublist_whole S)) e
+pub est_rest : (i : Task) (S : List Task) → nonempty S ≡ true → est (i ∷ S) ≤ est S
+est_rest i S e = est_sublist (skip {x = i} (sublist_whole S)) e

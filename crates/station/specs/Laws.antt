@@ -7,8 +7,8 @@ use Rattle.station.specs.Pairs.{comes_after, pairs_earliest, pairs_limit}
 use Rattle.station.specs.Sets.{greatest, least, others, sublists}
 use Rattle.station.specs.Tasks.{ect, last_start, own_limit}
 use Rattle.station.specs.Bounds.{at_least_ge, at_most_le}
-use Rattle.station.specs.Mirroring.{edges_mirrored, not_first-mirrored, overloaded_mirrored, pairs_mirrored}
-use Rattle.station.specs.Preserving.{edges_checks, edges_keeps, edges_roomy, not_first-checks, not_first-keeps, pairs_checks, pairs_keeps}
+use Rattle.station.specs.Mirroring.{edges_mirrored, not_first_mirrored, overloaded_mirrored, pairs_mirrored}
+use Rattle.station.specs.Preserving.{edges_checks, edges_keeps, edges_roomy, not_first_checks, not_first_keeps, pairs_checks, pairs_keeps}
 
 pub pairs_lawful : Lawful (λ _. false) pairs_earliest pairs_limit
 pairs_lawful = record {
@@ -37,8 +37,8 @@ not_first_lawful = record {
   rises = λ i U. at_least_ge (not_first i) (λ S. least ect S) i.lo (sublists (others i U));
   falls = λ i U. at_most_le (not_last i) (λ S. greatest last_start S + 1 - i.span) (own_limit i) (sublists (others i U));
   roomy = λ st U p. refl;
-  keeps = not_first-keeps;
-  checks = λ U f s o b. not_first-checks U f s b;
-  mirrored = not_first-mirrored;
+  keeps = not_first_keeps;
+  checks = λ U f s o b. not_first_checks U f s b;
+  mirrored = not_first_mirrored;
   mirrored_load = λ U f. refl;
 }

@@ -1,4 +1,4 @@
--- Not-first and not_last at one station, over all sets S of its tasks: a task that cannot come before all of S comes after
+-- Not-first and not-last at one station, over all sets S of its tasks: a task that cannot come before all of S comes after
 -- one of them, and one that cannot come after all of S comes before one of them.
 use Rattle.std.specs.Prelude.{ℕ, ◌+◌, ◌-◌, Bool, ◌&&◌, List, nat_lt}
 use Rattle.station.specs.declared.task.Task.{Task}

@@ -10,25 +10,25 @@ use Rattle.station.specs.Sets.{nonempty, others, total, work}
 use Rattle.station.specs.Tasks.{Fit, Formed, Pairwise, at, no_task}
 use Rattle.station.specs.Members.{In, Sublist, all_from, all_in, here, keep, none, skip, there}
 
-pub total-drop : (f : Task → ℕ) (n : ℕ) (U : List Task) → total f (drop n U) ≤ total f U
-total-drop f zero U = omega arith
-total-drop f (suc n) [] = omega arith
-total-drop f (suc n) (x ∷ U) = let h : total f (drop n U) ≤ total f U = total-drop f n U in omega arith
+pub total_drop : (f : Task → ℕ) (n : ℕ) (U : List Task) → total f (drop n U) ≤ total f U
+total_drop f zero U = omega arith
+total_drop f (suc n) [] = omega arith
+total_drop f (suc n) (x ∷ U) = let h : total f (drop n U) ≤ total f U = total_drop f n U in omega arith
 
-pub work-some : (S : List Task) → nonempty S ≡ true → AllByRecursion (λ t. 1 ≤ t.span) S → 0 < work S
-work-some [] e h = absurd (both_ways false refl e)
-work-some (t ∷ S) e h = let p : 1 ≤ t.span = h.0 in omega arith
+pub work_some : (S : List Task) → nonempty S ≡ true → AllByRecursion (λ t. 1 ≤ t.span) S → 0 < work S
+work_some [] e h = absurd (both_ways false refl e)
+work_some (t ∷ S) e h = let p : 1 ≤ t.span = h.0 in omega arith
 
-pub some-work : (S : List Task) → 0 < work S → nonempty S ≡ true
-some-work [] h = absurd (omega arith)
-some-work (t ∷ S) h = refl
+pub some_work : (S : List Task) → 0 < work S → nonempty S ≡ true
+some_work [] h = absurd (omega arith)
+some_work (t ∷ S) h = refl
 
 module _ (q : Task → Bool) where
-  pub span-yes : (t : Task) → q t ≡ true → cond (q t) t.span 0 ≡ t.span
-  span-yes t e = cond-true (q t) _ _ e
+  pub span_yes : (t : Task) → q t ≡ true → cond (q t) t.span 0 ≡ t.span
+  span_yes t e = cond-true (q t) _ _ e
 
-  pub span-no : (t : Task) → q t ≡ false → cond (q t) t.span 0 ≡ 0
-  span-no t e = cond-false (q t) _ _ e
+  pub span_no : (t : Task) → q t ≡ false → cond (q t) t.span 0 ≡ 0
+  span_no t e = cond-false (q t) _ _ e
 
   pub work_mono : (r : Task → Bool) (L : List Task) → AllByRecursion (λ t. q t ≡ true → r t ≡ true) L → work_of q L ≤ work_of r L
   work_mono r [] h = omega arith
@@ -39,13 +39,13 @@ module _ (q : Task → Bool) where
       omega arith
 
   -- as work of a set
-  pub work-kept : (L : List Task) → work (filter q L) ≡ work_of q L
-  work-kept [] = refl
-  work-kept (t ∷ L) =
-      let p : work (filter q L) ≡ work_of q L = work-kept L in
+  pub work_kept : (L : List Task) → work (filter q L) ≡ work_of q L
+  work_kept [] = refl
+  work_kept (t ∷ L) =
+      let p : work (filter q L) ≡ work_of q L = work_kept L in
       ⊎_elim
-      (λ (e : q t ≡ true). ap work (cond-true (q t) (t ∷ filter q L) (filter q L) e) ∙ omega (arith, span-yes t e))
-      (λ (e : q t ≡ false). ap work (cond-false (q t) (t ∷ filter q L) (filter q L) e) ∙ omega (arith, span-no t e))
+      (λ (e : q t ≡ true). ap work (cond-true (q t) (t ∷ filter q L) (filter q L) e) ∙ omega (arith, span_yes t e))
+      (λ (e : q t ≡ false). ap work (cond-false (q t) (t ∷ filter q L) (filter q L) e) ∙ omega (arith, span_no t e))
       (cases_Bool (q t))
 
   -- a set whose tasks all pass has no more than all that pass
@@ -54,31 +54,31 @@ module _ (q : Task → Bool) where
   work_sublist (skip {S = S} {L = L} p) h = let r : work S ≤ work_of q L = work_sublist p h in omega arith
   work_sublist (keep {x = t} {S = S} {L = L} p) h =
       let r : work S ≤ work_of q L = work_sublist p h.1 in
-      omega (arith, span-yes t h.0)
+      omega (arith, span_yes t h.0)
 
   pub work_in : {t : Task} {L : List Task} → In t L → q t ≡ true → t.span ≤ work_of q L
-  work_in {t} {L = x ∷ L} here e = omega (arith, span-yes t e)
+  work_in {t} {L = x ∷ L} here e = omega (arith, span_yes t e)
   work_in {t} (there {x = x} {L = L} m) e = let r : t.span ≤ work_of q L = work_in m e in omega arith
 
   -- what another test has let through already
-  pub work_of-kept : (r : Task → Bool) (L : List Task) → AllByRecursion (λ t. q t ≡ true → r t ≡ true) L → work_of q (filter r L) ≡ work_of q L
-  work_of-kept r [] h = refl
-  work_of-kept r (t ∷ L) h =
-      let p : work_of q (filter r L) ≡ work_of q L = work_of-kept r L h.1 in
+  pub work_of_kept : (r : Task → Bool) (L : List Task) → AllByRecursion (λ t. q t ≡ true → r t ≡ true) L → work_of q (filter r L) ≡ work_of q L
+  work_of_kept r [] h = refl
+  work_of_kept r (t ∷ L) h =
+      let p : work_of q (filter r L) ≡ work_of q L = work_of_kept r L h.1 in
       ⊎_elim
       (λ (e : r t ≡ true). ap (work_of q) (cond-true (r t) (t ∷ filter r L) (filter r L) e) ∙ omega arith)
       (λ (e : r t ≡ false).
       let n : q t ≡ false = ⊎_elim (λ (y : q t ≡ true). absurd (both_ways _ e (h.0 y))) (λ (y : q t ≡ false). y) (cases_Bool (q t)) in
-      ap (work_of q) (cond-false (r t) (t ∷ filter r L) (filter r L) e) ∙ omega (arith, span-no t n))
+      ap (work_of q) (cond-false (r t) (t ∷ filter r L) (filter r L) e) ∙ omega (arith, span_no t n))
       (cases_Bool (r t))
 
-  pub work-split : (S : List Task) → work_of q S + work_of (λ t. not (q t)) S ≡ work S
-  work-split [] = refl
-  work-split (t ∷ S) =
-      let h : work_of q S + work_of (λ t. not (q t)) S ≡ work S = work-split S in
+  pub work_split : (S : List Task) → work_of q S + work_of (λ t. not (q t)) S ≡ work S
+  work_split [] = refl
+  work_split (t ∷ S) =
+      let h : work_of q S + work_of (λ t. not (q t)) S ≡ work S = work_split S in
       ⊎_elim
-      (λ (e : q t ≡ true). let y : cond (not (q t)) t.span 0 ≡ 0 = cond-false (not (q t)) _ _ (not_from_true _ e) in omega (arith, span-yes t e))
-      (λ (e : q t ≡ false). let y : cond (not (q t)) t.span 0 ≡ t.span = cond-true (not (q t)) _ _ (not_from_false _ e) in omega (arith, span-no t e))
+      (λ (e : q t ≡ true). let y : cond (not (q t)) t.span 0 ≡ 0 = cond-false (not (q t)) _ _ (not_from_true _ e) in omega (arith, span_yes t e))
+      (λ (e : q t ≡ false). let y : cond (not (q t)) t.span 0 ≡ t.span = cond-true (not (q t)) _ _ (not_from_false _ e) in omega (arith, span_no t e))
       (cases_Bool (q t))
 
   -- nothing that passes stands before place n
@@ -87,22 +87,22 @@ module _ (q : Task → Bool) where
   work_behind (suc n) [] c = refl
   work_behind (suc n) (t ∷ U) c =
       let r : work_of q U ≡ work_of q (drop n U) = work_behind n U (λ k h. c (suc k) (omega arith)) in
-      omega (arith, span-no t (c 0 (omega arith)))
+      omega (arith, span_no t (c 0 (omega arith)))
 
   -- one place further down
-  pub work-here : (U : List Task) (j : ℕ) → j < length U → work_of q (drop j U) ≡ cond (q (at U j)) (at U j).span 0 + work_of q (drop (suc j) U)
-  work-here U j h = ap (work_of q) (drop-cons U j no_task h)
+  pub work_here : (U : List Task) (j : ℕ) → j < length U → work_of q (drop j U) ≡ cond (q (at U j)) (at U j).span 0 + work_of q (drop (suc j) U)
+  work_here U j h = ap (work_of q) (drop-cons U j no_task h)
 
   -- never more than the most work
-  work-short : (U : List Task) → AllByRecursion Fit U → work_of q U ≤ longest * length U
-  work-short [] h = omega arith
-  work-short (t ∷ U) h =
-      let r : work_of q U ≤ longest * length U = work-short U h.1 in
+  work_short : (U : List Task) → AllByRecursion Fit U → work_of q U ≤ longest * length U
+  work_short [] h = omega arith
+  work_short (t ∷ U) h =
+      let r : work_of q U ≤ longest * length U = work_short U h.1 in
       let s : cond (q t) t.span 0 ≤ t.span = cond_both (q t) t.span 0 (λ x. x ≤ t.span) (λ e. omega arith) (λ e. omega arith) in
       omega (arith, h.0.short)
 
   pub work_most : (U : List Task) (k : ℕ) → Formed U → work_of q (drop k U) ≤ most_work
-  work_most U k f = omega (arith, work-short U f.fit, total-drop (λ t. cond (q t) t.span 0) k U, f.few)
+  work_most U k f = omega (arith, work_short U f.fit, total_drop (λ t. cond (q t) t.span 0) k U, f.few)
 
 -- a task and a set of others of its station
 module _ (q : Task → Bool) (i : Task) where
@@ -112,15 +112,15 @@ module _ (q : Task → Bool) (i : Task) where
   i_itself : other i ≡ false
   i_itself = not_from_true _ (eq-eqb i.job i.job refl)
 
-  pub others-work : {L : List Task} → In i L → Pairwise (λ s t. s.job ≢ t.job) L → work_of q (others i L) + cond (q i) i.span 0 ≡ work_of q L
-  others-work {L = x ∷ L} here d =
+  pub others_work : {L : List Task} → In i L → Pairwise (λ s t. s.job ≢ t.job) L → work_of q (others i L) + cond (q i) i.span 0 ≡ work_of q L
+  others_work {L = x ∷ L} here d =
       let z : others i (i ∷ L) ≡ others i L = cond-false (other i) _ _ i_itself in
-      let k : work_of q (others i L) ≡ work_of q L = work_of-kept q other L (all_from _ L (λ t m h. not_from_false _ (ne_eqb _ _ (λ y. all_in (λ s. i.job ≢ s.job) m d.0 (sym y))))) in
+      let k : work_of q (others i L) ≡ work_of q L = work_of_kept q other L (all_from _ L (λ t m h. not_from_false _ (ne_eqb _ _ (λ y. all_in (λ s. i.job ≢ s.job) m d.0 (sym y))))) in
       omega (arith, ap (work_of q) z)
-  others-work (there {x = x} {L = L} m) d =
-      let r : work_of q (others i L) + cond (q i) i.span 0 ≡ work_of q L = others-work m d.1 in
+  others_work (there {x = x} {L = L} m) d =
+      let r : work_of q (others i L) + cond (q i) i.span 0 ≡ work_of q L = others_work m d.1 in
       let z : others i (x ∷ L) ≡ x ∷ others i L = cond-true (other x) _ _ (not_from_false _ (ne_eqb _ _ (λ y. all_in (λ s. x.job ≢ s.job) m d.0 y))) in
       omega (arith, ap (work_of q) z)
 
   pub work_with : {L : List Task} → In i L → Pairwise (λ s t. s.job ≢ t.job) L → q i ≡ true → (S : List Task) → Sublist S (others i L) → AllByRecursion (λ t. q t ≡ true) S → i.span + work S ≤ work_of q L
-  work_with {L} m d e S p h = omega (arith, work_sublist q p h, others-work m d, span-yes q i e)
+  work_with {L} m d e S p h = omega (arith, work_sublist q p h, others_work m d, span_yes q i e)

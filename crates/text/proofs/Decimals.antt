@@ -6,7 +6,7 @@ use Rattle.std.proofs.lemmas.Str.Parse.{IsNumeralModel, numerals_by_fold, digits
 use Rattle.std.proofs.lemmas.Fmt.{digits_decimal, digits_value-decimal, length-decimal-le, decimal_nonempty, first_decimal, decimal_digit, decimal-digits_value}
 use Rattle.text.specs.Splitting.{Without}
 use Rattle.text.specs.Numbers.{is_digit, value_after, number, in_32_bits, number_32}
-use Rattle.text.proofs.Options.{none-some, some_same}
+use Rattle.text.proofs.Options.{none_some, some_same}
 
 abbrev all_digits : List ℕ → Bool
 all_digits [] = true
@@ -19,24 +19,24 @@ value n (b ∷ bs) = value (n * 10 + (b - 48)) bs
 numerals : IsNumeralModel (λ ds. all_digits ds ≡ true) (value 0)
 numerals = numerals_by_fold _ (search rules) value (search rules)
 
-value_after-is : (n : ℕ) (ds : List ℕ) → value_after n ds ≡ cond (all_digits ds) (Some (value n ds)) None
-value_after-is n [] = refl
-value_after-is n (b ∷ bs) =
+value_after_is : (n : ℕ) (ds : List ℕ) → value_after n ds ≡ cond (all_digits ds) (Some (value n ds)) None
+value_after_is n [] = refl
+value_after_is n (b ∷ bs) =
     elim (is_digit b) as (λ v. cond v (value_after (n * 10 + (b - 48)) bs) None ≡ cond (v && all_digits bs) (Some (value (n * 10 + (b - 48)) bs)) None) [
-      | true ↦ value_after-is (n * 10 + (b - 48)) bs
+      | true ↦ value_after_is (n * 10 + (b - 48)) bs
       | false ↦ refl
     ]
 
 only_digits : (n : ℕ) (ds : List ℕ) → value_after 0 ds ≡ Some n → (all_digits ds ≡ true) × (value 0 ds ≡ n)
 only_digits n ds q =
     cond_both (all_digits ds) (Some (value 0 ds)) None (λ v. v ≡ Some n → (all_digits ds ≡ true) × (value 0 ds ≡ n))
-    (λ e r. (e, some_same _ _ r)) (λ e r. none-some n r) (sym (value_after-is 0 ds) ∙ q)
+    (λ e r. (e, some_same _ _ r)) (λ e r. none_some n r) (sym (value_after_is 0 ds) ∙ q)
 
 number_of_digits : (k : ℕ) (ds : List ℕ) → all_digits ds ≡ true → 0 < length ds → length ds ≤ k → (get_or ds 0 0 ≡ 48 → length ds ≡ 1) → number k ds ≡ Some (value 0 ds)
 number_of_digits k [] d h l z = absurd (omega arith)
 number_of_digits k (b ∷ bs) d h l z =
     let e : ltb k (length (b ∷ bs)) ≡ false = le-ltb k (length (b ∷ bs)) l in
-    let v : value_after 0 (b ∷ bs) ≡ Some (value 0 (b ∷ bs)) = value_after-is 0 (b ∷ bs) ∙ ap (λ (t : Bool). cond t (Some (value 0 (b ∷ bs))) None) d in
+    let v : value_after 0 (b ∷ bs) ≡ Some (value 0 (b ∷ bs)) = value_after_is 0 (b ∷ bs) ∙ ap (λ (t : Bool). cond t (Some (value 0 (b ∷ bs))) None) d in
     rw e
     (⊎_elim
     (λ (q : b ≡ 48).
@@ -58,10 +58,10 @@ number_of_decimal k n o h l =
 abbrev pub DecimalBelow : ℕ → List ℕ → ℕ → Type 0
 DecimalBelow m f n = (f ≡ decimal n) × (n < m)
 
-decimal_from-number : (k : ℕ) (f : List ℕ) (n : ℕ) → 10 ^ k ≤ 2 ^ 64 → number k f ≡ Some n → DecimalBelow (10 ^ k) f n
-decimal_from-number k [] n s = λ q. none-some n q
-decimal_from-number k (b ∷ bs) n s =
-    cond_both (ltb k (length (b ∷ bs))) None _ (λ v. v ≡ Some n → DecimalBelow (10 ^ k) (b ∷ bs) n) (λ _ q. none-some n q)
+decimal_from_number : (k : ℕ) (f : List ℕ) (n : ℕ) → 10 ^ k ≤ 2 ^ 64 → number k f ≡ Some n → DecimalBelow (10 ^ k) f n
+decimal_from_number k [] n s = λ q. none_some n q
+decimal_from_number k (b ∷ bs) n s =
+    cond_both (ltb k (length (b ∷ bs))) None _ (λ v. v ≡ Some n → DecimalBelow (10 ^ k) (b ∷ bs) n) (λ _ q. none_some n q)
     (λ l. let h : length (b ∷ bs) ≤ k = ltb-false k (length (b ∷ bs)) l in
     cond_both (eqb b 48) _ _ (λ v. v ≡ Some n → DecimalBelow (10 ^ k) (b ∷ bs) n)
     (λ z. cond_both (eqb (length bs) 0) (Some 0) None (λ v. v ≡ Some n → DecimalBelow (10 ^ k) (b ∷ bs) n)
@@ -69,7 +69,7 @@ decimal_from-number k (b ∷ bs) n s =
     let c : b ≡ 48 = eqb-true b 48 z in
     let m : 0 ≡ n = some_same 0 n q in
     (rw (e, c, ← m) (sym (decimal_digit 0 (omega arith))), omega (arith, digits_value_short numerals (48 ∷ []) k refl (omega arith))))
-    (λ _ q. none-some n q))
+    (λ _ q. none_some n q))
     (λ z q. let t = only_digits n (b ∷ bs) q in
     let u = digits_value_short numerals (b ∷ bs) k t.0 (omega arith) in
     let e = t.1 in (
@@ -86,18 +86,18 @@ pub record Reads (read : List ℕ → Option ℕ) (m : ℕ) : Type 0 where
 pub number_reads : (k : ℕ) → 0 < k → 10 ^ k ≤ 2 ^ 64 → Reads (number k) (10 ^ k)
 number_reads k o s = record {
   from_decimal = λ n h. number_of_decimal k n o h (omega arith);
-  only_decimal = λ f n q. decimal_from-number k f n s q;
+  only_decimal = λ f n q. decimal_from_number k f n s q;
   short = s;
 }
 
-in_32_bits-some : (o : Option ℕ) (n : ℕ) → in_32_bits o ≡ Some n → (o ≡ Some n) × (n < 2 ^ 32)
-in_32_bits-some None n = λ q. none-some n q
-in_32_bits-some (Some m) n =
+in_32_bits_some : (o : Option ℕ) (n : ℕ) → in_32_bits o ≡ Some n → (o ≡ Some n) × (n < 2 ^ 32)
+in_32_bits_some None n = λ q. none_some n q
+in_32_bits_some (Some m) n =
     cond_both (ltb m (2 ^ 32)) (Some m) None (λ v. v ≡ Some n → (Some m ≡ Some n) × (n < 2 ^ 32))
     (λ e q. let l = ltb-true m (2 ^ 32) e in
     let r = some_same m n q in
     (q, omega arith))
-    (λ _ q. none-some n q)
+    (λ _ q. none_some n q)
 
 within_32_bits : (o : Option ℕ) → ((n : ℕ) → o ≡ Some n → n < 2 ^ 32) → in_32_bits o ≡ o
 within_32_bits None h = refl
@@ -106,13 +106,13 @@ within_32_bits (Some n) h = let t : ltb n (2 ^ 32) ≡ true = lt-ltb n (2 ^ 32) 
 pub number_32_reads : (k : ℕ) → 0 < k → 2 ^ 32 ≤ 10 ^ k → 10 ^ k ≤ 2 ^ 64 → Reads (number_32 k) (2 ^ 32)
 number_32_reads k o b s = record {
   from_decimal = λ n h. let t : ltb n (2 ^ 32) ≡ true = lt-ltb n (2 ^ 32) h in ap in_32_bits (number_of_decimal k n o (omega arith) (omega arith)) ∙ (rw t);
-  only_decimal = λ f n q. let t = in_32_bits-some (number k f) n q in ((decimal_from-number k f n s t.0).0, t.1);
+  only_decimal = λ f n q. let t = in_32_bits_some (number k f) n q in ((decimal_from_number k f n s t.0).0, t.1);
   short = omega arith;
 }
 
 -- few digits always fit
 pub number_fits : (k : ℕ) → 10 ^ k ≤ 2 ^ 32 → (f : List ℕ) → number_32 k f ≡ number k f
-number_fits k h f = within_32_bits (number k f) (λ n q. let t = decimal_from-number k f n (omega arith) q in omega arith)
+number_fits k h f = within_32_bits (number k f) (λ n q. let t = decimal_from_number k f n (omega arith) q in omega arith)
 
 digits_without : (sep : ℕ) (ds : List ℕ) → sep < 48 → all_digits ds ≡ true → Without sep ds
 digits_without sep [] h e = tt

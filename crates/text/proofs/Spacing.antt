@@ -5,7 +5,7 @@ use Rattle.text.specs.Bytes.{space}
 use Rattle.text.specs.Splitting.{Parts, last, next, split}
 use Rattle.text.specs.Numbers.{is_digit, value_after, number, in_32_bits, number_32}
 use Rattle.text.specs.Spaced.{in_front, numbers}
-use Rattle.text.proofs.Splits.{rejoined, rejoined-split}
+use Rattle.text.proofs.Splits.{rejoined, rejoined_split}
 
 value_with_space : (n : ℕ) (f ys : List ℕ) → value_after n (f ++ (space ∷ ys)) ≡ None
 value_with_space n [] ys = refl
@@ -26,15 +26,15 @@ only_number : (k : ℕ) (ps : Parts) → in_front (number_32 k (rejoined space p
 only_number k (last f) = refl
 only_number k (next f ps) = ap (λ (o : Option ℕ). in_front (in_32_bits o) (Some [])) (number_with_space k f (rejoined space ps)) ∙ sym (in_front_of_none (number_32 k f))
 
-pub last-number-is : (k : ℕ) (xs : List ℕ) → in_front (number_32 k xs) (Some []) ≡ numbers (number_32 k) 1 (split space xs)
-last-number-is k xs = ap (λ (t : List ℕ). in_front (number_32 k t) (Some [])) (sym (rejoined-split space xs)) ∙ only_number k (split space xs)
+pub last_number_is : (k : ℕ) (xs : List ℕ) → in_front (number_32 k xs) (Some []) ≡ numbers (number_32 k) 1 (split space xs)
+last_number_is k xs = ap (λ (t : List ℕ). in_front (number_32 k t) (Some [])) (sym (rejoined_split space xs)) ∙ only_number k (split space xs)
 
 -- two ways to read that agree read the same numbers
-pub numbers-same : (read also : List ℕ → Option ℕ) → ((f : List ℕ) → read f ≡ also f) → (n : ℕ) (ps : Parts) → numbers read n ps ≡ numbers also n ps
-numbers-same read also h zero ps = refl
-numbers-same read also h (suc zero) (last f) = ap (λ (o : Option ℕ). in_front o (Some [])) (h f)
-numbers-same read also h (suc (suc n)) (last f) = refl
-numbers-same read also h (suc n) (next f ps) = rw (h f, numbers-same read also h n ps)
+pub numbers_same : (read also : List ℕ → Option ℕ) → ((f : List ℕ) → read f ≡ also f) → (n : ℕ) (ps : Parts) → numbers read n ps ≡ numbers also n ps
+numbers_same read also h zero ps = refl
+numbers_same read also h (suc zero) (last f) = ap (λ (o : Option ℕ). in_front o (Some [])) (h f)
+numbers_same read also h (suc (suc n)) (last f) = refl
+numbers_same read also h (suc n) (next f ps) = rw (h f, numbers_same read also h n ps)
 
 -- a list by its places
 pub three_places : (ns : List ℕ) → length ns ≡ 3 → ns ≡ get_or ns 0 0 ∷ (get_or ns 1 0 ∷ (get_or ns 2 0 ∷ []))

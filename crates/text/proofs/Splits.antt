@@ -5,29 +5,29 @@ use Rattle.std.proofs.lemmas.Bool.{eq-eqb, ne_eqb, eqb-true, eqb-false, cond_bot
 use Rattle.std.proofs.lemmas.List.{take-append-drop, drop_more, take_all, take_rest, length-take-le, length-drop}
 use Rattle.text.specs.Splitting.{Parts, last, next, onto_first, split, Without}
 
-pub split-next : (sep : ℕ) (xs ys : List ℕ) → Without sep xs → split sep (xs ++ (sep ∷ ys)) ≡ next xs (split sep ys)
-split-next sep [] ys h = let e : eqb sep sep ≡ true = eq-eqb sep sep refl in rw e
-split-next sep (b ∷ bs) ys h = let e : eqb b sep ≡ false = ne_eqb b sep h.0 in rw (e, split-next sep bs ys h.1)
+pub split_next : (sep : ℕ) (xs ys : List ℕ) → Without sep xs → split sep (xs ++ (sep ∷ ys)) ≡ next xs (split sep ys)
+split_next sep [] ys h = let e : eqb sep sep ≡ true = eq-eqb sep sep refl in rw e
+split_next sep (b ∷ bs) ys h = let e : eqb b sep ≡ false = ne_eqb b sep h.0 in rw (e, split_next sep bs ys h.1)
 
-pub split-last : (sep : ℕ) (xs : List ℕ) → Without sep xs → split sep xs ≡ last xs
-split-last sep [] h = refl
-split-last sep (b ∷ bs) h = let e : eqb b sep ≡ false = ne_eqb b sep h.0 in rw (e, split-last sep bs h.1)
+pub split_last : (sep : ℕ) (xs : List ℕ) → Without sep xs → split sep xs ≡ last xs
+split_last sep [] h = refl
+split_last sep (b ∷ bs) h = let e : eqb b sep ≡ false = ne_eqb b sep h.0 in rw (e, split_last sep bs h.1)
 
 -- the bytes that were split
 abbrev pub rejoined : ℕ → Parts → List ℕ
 rejoined sep (last xs) = xs
 rejoined sep (next xs ps) = xs ++ (sep ∷ rejoined sep ps)
 
-rejoined-onto_first : (sep b : ℕ) (ps : Parts) → rejoined sep (onto_first b ps) ≡ b ∷ rejoined sep ps
-rejoined-onto_first sep b (last xs) = refl
-rejoined-onto_first sep b (next xs ps) = refl
+rejoined_onto_first : (sep b : ℕ) (ps : Parts) → rejoined sep (onto_first b ps) ≡ b ∷ rejoined sep ps
+rejoined_onto_first sep b (last xs) = refl
+rejoined_onto_first sep b (next xs ps) = refl
 
-pub rejoined-split : (sep : ℕ) (xs : List ℕ) → rejoined sep (split sep xs) ≡ xs
-rejoined-split sep [] = refl
-rejoined-split sep (b ∷ bs) =
+pub rejoined_split : (sep : ℕ) (xs : List ℕ) → rejoined sep (split sep xs) ≡ xs
+rejoined_split sep [] = refl
+rejoined_split sep (b ∷ bs) =
     cond_both (eqb b sep) (next [] (split sep bs)) (onto_first b (split sep bs)) (λ ps. rejoined sep ps ≡ b ∷ bs)
-    (λ e. let q : b ≡ sep = eqb-true b sep e in rw (rejoined-split sep bs, q))
-    (λ e. rw (rejoined-onto_first sep b (split sep bs), rejoined-split sep bs))
+    (λ e. let q : b ≡ sep = eqb-true b sep e in rw (rejoined_split sep bs, q))
+    (λ e. rw (rejoined_onto_first sep b (split sep bs), rejoined_split sep bs))
 
 -- no part has a separator
 abbrev pub AllWithout : ℕ → Parts → Type 0
@@ -58,20 +58,20 @@ without_take sep [] (suc i) h f = tt
 without_take sep (b ∷ bs) zero h f = tt
 without_take sep (b ∷ bs) (suc i) h f = (f 0 (omega arith), without_take sep bs i (omega arith) (λ k q. f (suc k) (omega arith)))
 
-split-here : (sep : ℕ) (l : List ℕ) (i : ℕ) → i < length l → NoneBefore sep l i → get_or l i 0 ≡ sep → split sep l ≡ next (take i l) (split sep (drop (i + 1) l))
-split-here sep l i h f e =
+split_here : (sep : ℕ) (l : List ℕ) (i : ℕ) → i < length l → NoneBefore sep l i → get_or l i 0 ≡ sep → split sep l ≡ next (take i l) (split sep (drop (i + 1) l))
+split_here sep l i h f e =
     let d : drop i l ≡ sep ∷ drop (i + 1) l = drop_more l i 0 h ∙ ap (λ (b : ℕ). b ∷ drop (i + 1) l) e in
     let w : l ≡ take i l ++ (sep ∷ drop (i + 1) l) = sym (take-append-drop i l) ∙ ap (λ (t : List ℕ). take i l ++ t) d in
-    ap (split sep) w ∙ split-next sep (take i l) (drop (i + 1) l) (without_take sep l i (omega arith) f)
+    ap (split sep) w ∙ split_next sep (take i l) (drop (i + 1) l) (without_take sep l i (omega arith) f)
 
-pub split-none : (sep : ℕ) (l : List ℕ) (i : ℕ) → length l ≤ i → NoneBefore sep l i → split sep l ≡ last l
-split-none sep l i h f =
+pub split_none : (sep : ℕ) (l : List ℕ) (i : ℕ) → length l ≤ i → NoneBefore sep l i → split sep l ≡ last l
+split_none sep l i h f =
     let e : take (length l) l ≡ l = take_all (length l) l (omega arith) in
-    split-last sep l (subst (Without sep) e (without_take sep l (length l) (omega arith) (λ k q. f k (omega arith))))
+    split_last sep l (subst (Without sep) e (without_take sep l (length l) (omega arith) (λ k q. f k (omega arith))))
 
 -- in two slices, before the separator and after it
 pub split_slices : (sep : ℕ) (l : List ℕ) (i : ℕ) → i < length l → NoneBefore sep l i → get_or l i 0 ≡ sep → split sep l ≡ next (take (i - 0) l) (split sep (take (length l - (i + 1)) (drop (i + 1) l)))
-split_slices sep l i h f e = rw (sub-zero i, take_rest l (i + 1)) (split-here sep l i h f e)
+split_slices sep l i h f e = rw (sub-zero i, take_rest l (i + 1)) (split_here sep l i h f e)
 
 pub slices_length : (l : List ℕ) (i : ℕ) → i < length l → length (take (i - 0) l) + length (take (length l - (i + 1)) (drop (i + 1) l)) + 1 ≡ length l
 slices_length l i h =

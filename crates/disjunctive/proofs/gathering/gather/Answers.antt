@@ -2,7 +2,7 @@
 use Rattle.std.proofs.Common.{◌≡◌, ℕ, length, ap, ◌∙◌, arith}
 use Rattle.rule.specs.Forming.{formed_fact}
 use Rattle.disjunctive.specs.Gathering.{gathered}
-use Rattle.disjunctive.specs.Gathered.{gathering_none, gathering_yes, gathering_no, gathering_as, gathering_fits, gathered-short}
+use Rattle.disjunctive.specs.Gathered.{gathering_none, gathering_yes, gathering_no, gathering_as, gathering_fits, gathered_short}
 use Rattle.disjunctive.proofs.gathering.gather.Goals as goal
 use Rattle.disjunctive.proofs.gathering.gather.Goals.{then-job-station, else-job-station}
 
@@ -38,6 +38,6 @@ returns c =
     let e : c.loop-k.k ≡ length ws = omega (arith, c.loop-k-test.false, c.loop-k.auto.k-end) in
     record {
       count = c.loop-k.invariant.count ∙ ap (λ (n : ℕ). length (gathered js ws c.args.station n)) e;
-      within = omega (arith, c.loop-k.invariant.count, gathered-short js ws c.args.station c.loop-k.k, (formed_fact ws c.requires.formed).count, c.requires.few);
+      within = omega (arith, c.loop-k.invariant.count, gathered_short js ws c.args.station c.loop-k.k, (formed_fact ws c.requires.formed).count, c.requires.few);
       tasks = c.loop-k.invariant.taken ∙ ap (λ (n : ℕ). gathered js ws c.args.station n) e;
     }

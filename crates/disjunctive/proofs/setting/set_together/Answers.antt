@@ -5,7 +5,7 @@ use Rattle.sheet.specs.declared.records.Window.{Window}
 use Rattle.rule.specs.Cuts.{Cut, dead, live, verdict_of, left}
 use Rattle.rule.specs.Bounds.{between, tabulate, all_open, together}
 use Rattle.rule.specs.Forming.{formed_fact, window_eq}
-use Rattle.rule.proofs.Bounding.{open_more, tabulate_more, together-dead}
+use Rattle.rule.proofs.Bounding.{open_more, tabulate_more, together_dead}
 use Rattle.disjunctive.proofs.Running.{low_of, limit_of}
 use Rattle.disjunctive.proofs.setting.set_together.Goals as goal
 
@@ -13,7 +13,7 @@ pub returns-then-lo-limit : goal.returns-then-lo-limit
 returns-then-lo-limit c =
     let lo = low_of c.args.lows.now in
     let end = limit_of c.args.jobs.now c.args.backs.now in
-    let gone : together lo end (length c.args.windows.now) ≡ dead = together-dead lo end (length c.args.windows.now) c.loop-k.k c.loop-k-test.true (omega (arith, c.saturating_sub.ensures, c.saturating_sub-limit.ensures, c.if-lo-limit.true)) in
+    let gone : together lo end (length c.args.windows.now) ≡ dead = together_dead lo end (length c.args.windows.now) c.loop-k.k c.loop-k-test.true (omega (arith, c.saturating_sub.ensures, c.saturating_sub-limit.ensures, c.if-lo-limit.true)) in
     record { answer = ap verdict_of (sym gone); after = ap (λ (x : Cut). left x c.args.windows.now) (sym gone) }
 
 pub loop-k-preserved : goal.loop-k-preserved

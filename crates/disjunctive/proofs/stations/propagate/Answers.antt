@@ -2,7 +2,7 @@
 use Rattle.std.proofs.Common.{◌≡◌, ◌≤◌, true, List, length, sym, ap, ◌∙◌, subst}
 use Rattle.sheet.specs.declared.records.Job.{Job}
 use Rattle.sheet.specs.Sound.{AllEntered}
-use Rattle.sheet.proofs.Soundness.{sheet-sound}
+use Rattle.sheet.proofs.Soundness.{sheet_sound}
 use Rattle.rule.specs.Windows.{formed}
 use Rattle.rule.specs.Cuts.{verdict_of, left}
 use Rattle.disjunctive.specs.StationCuts.{station_cut}
@@ -11,7 +11,7 @@ use Rattle.disjunctive.proofs.stations.propagate.Goals as goal
 pub narrow_jobs-requires : goal.narrow_jobs-requires
 narrow_jobs-requires g c =
     let same = sym c.jobs.ensures in
-    let sound = sheet-sound c.args.sheet.now in
+    let sound = sheet_sound c.args.sheet.now in
     record {
       entered = subst AllEntered same sound.entered;
       formed = subst (λ (js : List Job). formed (length js) c.args.windows.now ≡ true) same c.requires;

@@ -8,7 +8,7 @@ use Rattle.station.specs.declared.task.Task.{Task}
 use Rattle.station.specs.Tasks.{Fit, Formed}
 use Rattle.station.specs.Mirror.{mirror}
 use Rattle.station.specs.Members.{all_in, in_map}
-use Rattle.station.proofs.Reversing.{formed-mirror}
+use Rattle.station.proofs.Reversing.{formed_mirror}
 use Rattle.disjunctive.specs.Gathering.{tasks_at}
 use Rattle.disjunctive.specs.Gathered.{tasks_formed, tasks_numbered, tasks_others, task_in}
 use Rattle.disjunctive.proofs.Running.{from_start, raised_as}
@@ -51,7 +51,7 @@ raise_by_job-requires-2 g c =
     let f = formed_fact ws c.requires.formed in
     let e = c.reverse_time.ensures ∙ ap (map mirror) (from_start c.gather-count.result c.gather-count.new.tasks _ c.gather-count.ensures.tasks) in
     record {
-      formed = subst Formed (sym e) (formed-mirror _ (tasks_formed js ws c.requires.entered c.requires.few f c.args.station));
+      formed = subst Formed (sym e) (formed_mirror _ (tasks_formed js ws c.requires.entered c.requires.few f c.args.station));
       few = omega (arith, c.requires.backs, f.count, c.requires.few);
       numbered = subst (λ (L : List Task). AllByRecursion (λ t. t.job < length c.args.backs.now) L) (sym e) (All-map (λ t. t.job < length c.args.backs.now) mirror _ (tasks_numbered js ws c.requires.entered c.requires.few f c.args.station _ c.requires.backs));
     }

@@ -2,12 +2,12 @@
 use Rattle.std.proofs.Common.{◌≡◌, true, false, ◌&&◌, eqb, sym}
 use Rattle.std.proofs.lemmas.Bool.{ne_eqb, eq-eqb, and_left, and_right, and_from}
 use Rattle.rule.specs.Windows.{window}
-use Rattle.rule.specs.Repeating.{same-apart, same_more, same_end}
+use Rattle.rule.specs.Repeating.{same_apart, same_more, same_end}
 use Rattle.rule.proofs.windows.unchanged.Goals as goal
 use Rattle.rule.proofs.windows.unchanged.Goals.{then-new-i-via-then-new-i, then-new-i-via-else-new-i+then-new-i-2}
 
 pub returns-then-new-old : goal.returns-then-new-old
-returns-then-new-old c = sym (same-apart _ _ c.if-new-old.true)
+returns-then-new-old c = sym (same_apart _ _ c.if-new-old.true)
 
 pub returns-then-new-i : goal.returns-then-new-i
 returns-then-new-i c =

@@ -3,7 +3,7 @@ use Rattle.std.proofs.Common.{arith}
 use Rattle.station.specs.EdgesPasses.{ends_by}
 use Rattle.station.specs.Members.{fit_at}
 use Rattle.station.specs.Works.{work_most}
-use Rattle.station.proofs.EdgesTurns.{earlier_none, earlier_held, earlier_raise, earlier_pass, earlier_as, work-held, before_most}
+use Rattle.station.proofs.EdgesTurns.{earlier_none, earlier_held, earlier_raise, earlier_pass, earlier_as, work_held, before_most}
 use Rattle.station.proofs.edges.raise_by_earlier.Goals as goal
 use Rattle.station.proofs.edges.raise_by_earlier.Goals.{then-t-bound, else-t-bound+then-peak-t, else-t-bound+else-peak-t}
 
@@ -16,7 +16,7 @@ overflow_add-t c =
     omega (arith, c.loop-k.invariant.rest, t.room, t.ends, work_most (ends_by c.args.bound) c.args.tasks.now c.loop-k.k c.requires.formed)
 
 pub overflow_sub-rest : goal.overflow_sub-rest
-overflow_sub-rest c = omega (arith, c.loop-k.invariant.rest, work-held c.args.bound c.args.tasks.now c.loop-k.k c.loop-k-test.true c.if-t-bound.true)
+overflow_sub-rest c = omega (arith, c.loop-k.invariant.rest, work_held c.args.bound c.args.tasks.now c.loop-k.k c.loop-k-test.true c.if-t-bound.true)
 
 pub overflow_add-peak : goal.overflow_add-peak
 overflow_add-peak c =

@@ -4,7 +4,7 @@ use Rattle.station.specs.EdgesPasses.{ends_by}
 use Rattle.station.specs.Members.{fit_at}
 use Rattle.station.specs.Works.{work_most}
 use Rattle.station.proofs.Passes.{pass_none}
-use Rattle.station.proofs.EdgesTurns.{later-held, later_raise, later_pass}
+use Rattle.station.proofs.EdgesTurns.{later_held, later_raise, later_pass}
 use Rattle.station.proofs.edges.raise_by_later.Goals as goal
 
 pub loop-k-init : goal.loop-k-init
@@ -34,7 +34,7 @@ overflow_add-t-else-t-bound-2 c =
     omega (arith, d.work_is, t.room, t.ends, work_most (ends_by c.args.bound) c.args.tasks.now c.loop-k.k c.requires.formed)
 
 pub loop-k-preserved-then-t-bound : goal.loop-k-preserved-then-t-bound
-loop-k-preserved-then-t-bound c = later-held _ _ _ _ _ _ _ (c.loop-k.k - 1) c.loop-k.invariant (omega arith) c.if-t-bound.true _ c.max-completion.ensures
+loop-k-preserved-then-t-bound c = later_held _ _ _ _ _ _ _ (c.loop-k.k - 1) c.loop-k.invariant (omega arith) c.if-t-bound.true _ c.max-completion.ensures
 
 pub loop-k-preserved-then-t-work : goal.loop-k-preserved-then-t-work
 loop-k-preserved-then-t-work c =

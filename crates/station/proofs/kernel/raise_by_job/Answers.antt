@@ -2,7 +2,7 @@
 use Rattle.std.proofs.Common.{refl, ◌∙◌, arith, length-take}
 use Rattle.std.proofs.lemmas.List.Sorted.{length_permutation}
 use Rattle.std.proofs.ByRecursion.{all_shuffled}
-use Rattle.station.proofs.Shuffles.{formed-shuffled}
+use Rattle.station.proofs.Shuffles.{formed_shuffled}
 use Rattle.station.proofs.Scattering.{by_job}
 use Rattle.station.proofs.kernel.raise_by_job.Goals as goal
 
@@ -10,7 +10,7 @@ pub scatter-requires : goal.scatter-requires
 scatter-requires g c =
     let s = c.if-raise.ensures.shuffled in
     record {
-      formed = formed-shuffled _ _ s c.requires.formed;
+      formed = formed_shuffled _ _ s c.requires.formed;
       len = omega (arith, length_permutation _ _ s, simp length-take at c.raise.auto.lows, c.requires.formed.few);
       few = c.requires.few;
       numbered = all_shuffled _ _ _ s c.requires.numbered;

@@ -3,7 +3,7 @@ use Rattle.std.proofs.Common.{arith}
 use Rattle.station.specs.Tasks.{at}
 use Rattle.station.specs.Members.{fit_at}
 use Rattle.station.proofs.Rewriting.{up_none}
-use Rattle.station.proofs.NotFirstTurns.{any_raise, any-keep, any_as, front_most}
+use Rattle.station.proofs.NotFirstTurns.{any_raise, any_keep, any_as, front_most}
 use Rattle.station.proofs.not_first.raise_by_any.Goals as goal
 use Rattle.station.proofs.not_first.raise_by_any.Goals.{then-slack-front_of, else-slack-front_of}
 
@@ -22,7 +22,7 @@ loop-k-preserved c =
     let U = c.args.tasks.now in
     elim c.if-slack-front_of.branch [
       | then-slack-front_of w ↦ any_as e U _ _ _ _ (any_raise e U _ _ _ c.loop-k.invariant _ c.front_of.ensures _ c.requires.slack w.if-slack-front_of.true (omega (arith, c.loop-k.auto.lows, c.requires.len, c.loop-k-test.true)) _ w.max.ensures) w.lows-is
-      | else-slack-front_of w ↦ any_as e U _ _ _ _ (any-keep e U _ _ _ c.loop-k.invariant _ c.front_of.ensures _ c.requires.slack w.if-slack-front_of.false) w.lows-is
+      | else-slack-front_of w ↦ any_as e U _ _ _ _ (any_keep e U _ _ _ c.loop-k.invariant _ c.front_of.ensures _ c.requires.slack w.if-slack-front_of.false) w.lows-is
     ]
 
 pub returns : goal.returns

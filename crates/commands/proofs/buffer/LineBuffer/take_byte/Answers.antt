@@ -3,7 +3,7 @@ use Rattle.std.proofs.Common.{◌≡◌, ℕ, false, eqb, List, Option, sym, ap,
 use Rattle.std.proofs.lemmas.Bool.{ne_eqb}
 use Rattle.text.specs.Bytes.{line_end}
 use Rattle.commands.specs.Buffers.{longer}
-use Rattle.commands.proofs.Buffering.{longer-kept}
+use Rattle.commands.proofs.Buffering.{longer_kept}
 use Rattle.commands.proofs.buffer.LineBuffer.take_byte.Goals as goal
 
 pub returns : goal.returns
@@ -12,5 +12,5 @@ returns c =
     record {
       ended = sym e;
       line = rw e c.push.ensures;
-      grows = λ line ne h. c.push.ensures ∙ ap (λ (v : Option (List ℕ)). longer v c.args.byte) h ∙ longer-kept line c.args.byte;
+      grows = λ line ne h. c.push.ensures ∙ ap (λ (v : Option (List ℕ)). longer v c.args.byte) h ∙ longer_kept line c.args.byte;
     }

@@ -1,6 +1,6 @@
 -- An accepted advance keeps the promise, by the laws of the pile.
 use Rattle.std.proofs.Common.{refl, rules}
-use Rattle.sheet.proofs.Soundness.{sheet-sound}
+use Rattle.sheet.proofs.Soundness.{sheet_sound}
 use Rattle.search.proofs.Promised.{keeps_promise}
 use Rattle.search.proofs.Rows.{composes}
 use Rattle.planner.specs.States.{entries_of, state_of, look_in}
@@ -23,7 +23,7 @@ pub returns : goal.returns
 returns g c =
     let s = c.args.self.now in
     let e = c.make_looks-outcome.ensures in
-    let sound = sheet-sound s.sheet in
+    let sound = sheet_sound s.sheet in
     record {
       answer = search rules;
       state = e.state;

@@ -2,7 +2,7 @@
 use Rattle.std.proofs.Common.{sym, refl}
 use Rattle.planner.specs.States.{path_in}
 use Rattle.planner.proofs.Narrowed.{back_grown}
-use Rattle.planner.proofs.Reading.{shut, shut_path, open_not-impossible}
+use Rattle.planner.proofs.Reading.{shut, shut_path, open_not_impossible}
 use Rattle.planner.proofs.state.Search.backtrack.Goals as goal
 
 pub invariant_of-self : goal.invariant_of-self
@@ -20,7 +20,7 @@ invariant_of-self-else-not-backtrack g c =
     record {
       start_places = s.start_places;
       grown = back_grown s _ c.backtrack.ensures.after;
-      no_path = (λ e. absurd (open_not-impossible c.requires e));
+      no_path = (λ e. absurd (open_not_impossible c.requires e));
     }
 
 pub returns-then-not-backtrack : goal.returns-then-not-backtrack

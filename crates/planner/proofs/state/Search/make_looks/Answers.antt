@@ -3,7 +3,7 @@ use Rattle.std.proofs.Common.{◌≡◌, suc, ◌+◌, ◌-◌, List, length, ta
 use Rattle.search.specs.declared.decision.Decision.{Decision}
 use Rattle.search.specs.Looks.{State, after_looks, looks_made}
 use Rattle.planner.specs.States.{entries_of, path_in, state_of, look_in}
-use Rattle.planner.proofs.Reading.{open_after, open_made, settled_after, settled_made, outcome-read, look_same}
+use Rattle.planner.proofs.Reading.{open_after, open_made, settled_after, settled_made, outcome_read, look_same}
 use Rattle.planner.proofs.state.Search.make_looks.Goals as goal
 
 pub loop-self-preserved : goal.loop-self-preserved
@@ -32,7 +32,7 @@ returns-in_default g c =
     let F : List Decision → State = look_in g.P.Rule.cut c.args.self.now in
     let k = c.args.looks - c.loop-self.made in
     record {
-      outcome = outcome-read s.outcome (path_in s) t;
+      outcome = outcome_read s.outcome (path_in s) t;
       made = omega (arith, settled_made F s.outcome (path_in s) t k c.in_default.not-Open, c.loop-self.invariant.4);
       state = sym (settled_after F s.outcome (path_in s) t k c.in_default.not-Open) ∙ c.loop-self.invariant.3;
       sheet = c.loop-self.invariant.0;

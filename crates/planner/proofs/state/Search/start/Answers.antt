@@ -2,11 +2,11 @@
 use Rattle.std.proofs.Common.{◌≡◌, length, ap, arith}
 use Rattle.search.specs.Paths.{decisions}
 use Rattle.planner.specs.States.{entries_of}
-use Rattle.planner.proofs.Reading.{found-answer}
+use Rattle.planner.proofs.Reading.{found_answer}
 use Rattle.planner.proofs.state.Search.start.Goals as goal
 
 pub returns-in-Found : goal.returns-in-Found
 returns-in-Found g c =
     let s = c.args.self.now in
     let n : length c.jobs.result.now ≡ length (entries_of s).jobs = ap length c.jobs.ensures in
-    found-answer (length (entries_of s).jobs) s.outcome (decisions s.path) s.starts c.args.job c.in-Found.is (omega (arith, c.if-number-jobs.false))
+    found_answer (length (entries_of s).jobs) s.outcome (decisions s.path) s.starts c.args.job c.in-Found.is (omega (arith, c.if-number-jobs.false))

@@ -6,13 +6,13 @@ use Rattle.sheet.specs.Entries.{job_of}
 use Rattle.sheet.specs.Sheets.{entries}
 use Rattle.sheet.specs.Sound.{Entered}
 use Rattle.sheet.proofs.Tables.{throughout_written_over}
-use Rattle.sheet.proofs.Soundness.{job-count}
+use Rattle.sheet.proofs.Soundness.{job_count_lem}
 use Rattle.sheet.proofs.table.Sheet.replace_job.Goals as goal
 
 pub invariant_of-self : goal.invariant_of-self
 invariant_of-self c =
     let s = c.args.self.now in
-    let h : c.args.place < s.job_count = omega (arith, job-count s, c.requires.there) in
+    let h : c.args.place < s.job_count = omega (arith, job_count_lem s, c.requires.there) in
     record {
       jobs_fit = omega arith;
       links_fit = omega arith;
@@ -25,5 +25,5 @@ invariant_of-self c =
 pub returns : goal.returns
 returns c =
     let s = c.args.self.now in
-    let h : c.args.place < s.job_count = omega (arith, job-count s, c.requires.there) in
+    let h : c.args.place < s.job_count = omega (arith, job_count_lem s, c.requires.there) in
     ap (λ (js : List Job). record { jobs = js; links = (entries s).links }) (take-set-lt s.job_count s.jobs c.args.place c.args.job h)
