@@ -31,7 +31,7 @@
  *
  *     "J 0 5 0 12\n" "J 0 4 0 9\n" "L 0 1 0\n" "E 2 1 21\n"        found: 0 and 5
  *
- * TIME AND MEMORY. The call allocates nothing and takes at most about 74 kilobytes of stack. Looks
+ * TIME AND MEMORY. The call allocates nothing and takes at most about 100 kilobytes of stack. Looks
  * bound its time, but a look on a large sheet takes far longer than one on a small sheet. The
  * same slip and looks always give the same answer, and more looks never change an answer other
  * than RIUVELDE_OPEN (and RIUVELDE_REFUSED_LOOKS).
