@@ -1,5 +1,7 @@
 -- The windows of a sheet's jobs, by number, and the timetables within them.
-use Rattle.std.specs.Prelude.{◌≡◌, ℕ, ◌<◌, ◌≤◌, Bool, true, false, ◌&&◌, List, [], ◌∷◌, map, length, ◌==◌, nat_le, slice_index, slice_index_or}
+use Rattle.std.specs.Prelude.{◌≡◌, ℕ, ◌<◌, ◌≤◌, Bool, ◌&&◌, List, map, length, ◌==◌, nat_le, slice_index, slice_index_or}
+use Rattle.std.specs.Cmp.Lexicographic.{pointwise}
+use Rattle.std.specs.List.{list_all}
 use Rattle.sheet.specs.declared.records.Window.{Window}
 use Rattle.sheet.specs.Limits.{last_minute}
 
@@ -15,8 +17,7 @@ abbrev pub fine : Window → Bool
 fine w = nat_le w.lo w.hi && nat_le w.hi last_minute
 
 abbrev pub all_fine : List Window → Bool
-all_fine [] = true
-all_fine (w ∷ ws) = fine w && all_fine ws
+all_fine ws = list_all fine ws
 
 -- whether these can be the windows of n jobs; if not, they are malformed
 abbrev pub formed : ℕ → List Window → Bool
@@ -28,11 +29,9 @@ pub record Formed (n : ℕ) (ws : List Window) : Type 0 where
   pub ordered : (k : ℕ) → k < length ws → (window ws k).lo ≤ (window ws k).hi
   pub timely : (k : ℕ) → k < length ws → (window ws k).hi ≤ last_minute
 
+-- as many windows, each with the first start and the last of its like
 abbrev pub same : List Window → List Window → Bool
-same [] [] = true
-same [] (w ∷ ws) = false
-same (v ∷ vs) [] = false
-same (v ∷ vs) (w ∷ ws) = (v.lo == w.lo && v.hi == w.hi) && same vs ws
+same vs ws = pointwise (λ v w. v.lo == w.lo && v.hi == w.hi) vs ws
 
 -- the windows vs lie within ws, and every first start is at most its last
 pub record Within (vs ws : List Window) : Type 0 where

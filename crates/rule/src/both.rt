@@ -8,8 +8,7 @@ ghost use Rattle.rule.specs.Piling.{then_live, then_keeps};
 
 use crate::narrowing::Rule;
 use crate::verdict::Verdict;
-use crate::windows::BLANK_WINDOW;
-use sheet::limits::MAX_JOBS;
+use crate::windows::copy_of;
 use sheet::records::Window;
 use sheet::table::Sheet;
 
@@ -41,14 +40,12 @@ impl<A: Rule, B: Rule> Rule for Both<A, B> {
         } };
 
     fn propagate(&self, sheet: &Sheet, windows: &mut [Window]) -> Verdict {
-        let mut store = [BLANK_WINDOW; MAX_JOBS];
-        let handed = &mut store[0..windows.len()];
-        handed.copy_from_slice(windows);
+        let handed = copy_of(windows);
         if let Verdict::Dead = self.0.propagate(sheet, windows) {
             return Verdict::Dead;
         }
         if let Verdict::Dead = self.1.propagate(sheet, windows) {
-            windows.copy_from_slice(handed);
+            windows.copy_from_slice(&handed);
             return Verdict::Dead;
         }
         Verdict::Alive

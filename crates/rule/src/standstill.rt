@@ -13,8 +13,7 @@ ghost use Rattle.rule.specs.Repeating.{repeated_within, repeated_keeps};
 
 use crate::narrowing::Rule;
 use crate::verdict::Verdict;
-use crate::windows::{BLANK_WINDOW, unchanged};
-use sheet::limits::MAX_JOBS;
+use crate::windows::copy_of;
 use sheet::records::Window;
 use sheet::table::Sheet;
 
@@ -33,7 +32,7 @@ impl<A: Rule> Standstill<A> {
 }
 
 /// What one round of a rule comes to.
-#[derive(Clone, Copy)]
+#[derive(Clone, Copy, PartialEq, Eq, Debug)]
 pub enum Round {
     Dead,
     Still,
@@ -46,13 +45,11 @@ fn go_round<A: Rule>(rule: &A, sheet: &Sheet, windows: &mut [Window]) -> Round
     ensures answer { result ≡ round_of (A.Rule.cut rule.now (entries sheet.now) windows.old) windows.old }
     ensures after { windows.new ≡ left (A.Rule.cut rule.now (entries sheet.now) windows.old) windows.old }
 {
-    let mut store = [BLANK_WINDOW; MAX_JOBS];
-    let before = &mut store[0..windows.len()];
-    before.copy_from_slice(windows);
+    let before = copy_of(windows);
     if let Verdict::Dead = rule.propagate(sheet, windows) {
         return Round::Dead;
     }
-    if unchanged(windows, before) {
+    if &*windows == before.as_slice() {
         return Round::Still;
     }
     Round::Narrowed
@@ -72,13 +69,11 @@ impl<A: Rule> Rule for Standstill<A> {
         } };
 
     fn propagate(&self, sheet: &Sheet, windows: &mut [Window]) -> Verdict {
-        let mut store = [BLANK_WINDOW; MAX_JOBS];
-        let handed = &mut store[0..windows.len()];
-        handed.copy_from_slice(windows);
+        let handed = copy_of(windows);
         loop {
             match go_round(&self.0, sheet, windows) {
                 Round::Dead => {
-                    windows.copy_from_slice(handed);
+                    windows.copy_from_slice(&handed);
                     return Verdict::Dead;
                 }
                 Round::Still => return Verdict::Alive,

@@ -6,19 +6,16 @@ ghost use Rattle.rule.specs.Cuts.{verdict_number};
 #[derive(Clone, Copy, PartialEq, Eq, Debug)]
 pub enum Verdict {
     /// One may, and the windows are the narrowed ones.
-    Alive,
+    Alive = 0,
     /// None does that the rule admits.
-    Dead,
+    Dead = 1,
 }
 
-impl Verdict {
+impl From<Verdict> for u32 {
+    ghost from_gives = { λ verdict number. number ≡ verdict_number verdict };
+
     /// The number that tells the verdict.
-    pub fn number(self) -> u32
-        ensures { result ≡ verdict_number self }
-    {
-        match self {
-            Verdict::Alive => 0,
-            Verdict::Dead => 1,
-        }
+    fn from(verdict: Verdict) -> u32 {
+        verdict as u32
     }
 }

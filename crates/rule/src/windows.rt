@@ -1,40 +1,45 @@
-// Tests of windows.
-ghost use Rattle.std.specs.Prelude.{◌≡◌};
-ghost use Rattle.rule.specs.Windows.{formed, same};
+// Tests of windows, and copies of them.
+ghost use Rattle.std.specs.Prelude.{◌≡◌, ◌≤◌, length};
+ghost use Rattle.rule.specs.Windows.{all_fine, formed};
+ghost use Rattle.rule.specs.Cuts.{verdict_of, left};
+ghost use Rattle.rule.specs.Bounds.{if_fine};
 
-use sheet::limits::LAST_MINUTE;
+use crate::verdict::Verdict;
+use arrayvec::ArrayVec;
+use sheet::limits::{LAST_MINUTE, MAX_JOBS};
 use sheet::records::Window;
 
-/// A place for a window that is not filled yet.
-pub const BLANK_WINDOW: Window = Window { lo: 0, hi: 0 };
+/// Whether each can be the window of a job: no first start after its last, and no start after the last minute.
+fn all_fine(windows: &[Window]) -> bool
+    ensures { result ≡ all_fine windows.now }
+{
+    windows.iter().all(|w| w.lo <= w.hi && w.hi <= LAST_MINUTE)
+}
 
-/// Whether these can be the windows of so many jobs: one for each, no first start after its last,
-/// and no start after the last minute.
+/// Whether these can be the windows of so many jobs: one for each, and each can be one.
 pub fn well_formed(jobs: usize, windows: &[Window]) -> bool
     ensures { result ≡ formed jobs windows.now }
 {
-    if windows.len() != jobs {
-        return false;
-    }
-    for w in windows {
-        if w.lo > w.hi || w.hi > LAST_MINUTE {
-            return false;
-        }
-    }
-    true
+    windows.len() == jobs && all_fine(windows)
 }
 
-/// Whether the windows are the same.
-pub fn unchanged(new: &[Window], old: &[Window]) -> bool
-    ensures { result ≡ same new.now old.now }
+/// A copy of the windows of a sheet's jobs.
+pub fn copy_of(windows: &[Window]) -> ArrayVec<Window, MAX_JOBS>
+    requires { length windows.now ≤ 48 }
+    ensures { result.items ≡ windows.now }
 {
-    if new.len() != old.len() {
-        return false;
+    ArrayVec::try_from(windows).unwrap()
+}
+
+/// Puts narrowed windows in the place of the old, or is dead where one of them cannot be the window of a job.
+pub fn put_in_place(windows: &mut [Window], narrowed: &[Window]) -> Verdict
+    requires { length narrowed.now ≡ length windows.old }
+    ensures answer { result ≡ verdict_of (if_fine narrowed.now) }
+    ensures after { windows.new ≡ left (if_fine narrowed.now) windows.old }
+{
+    if !all_fine(narrowed) {
+        return Verdict::Dead;
     }
-    for i in 0..new.len() {
-        if new[i].lo != old[i].lo || new[i].hi != old[i].hi {
-            return false;
-        }
-    }
-    true
+    windows.copy_from_slice(narrowed);
+    Verdict::Alive
 }

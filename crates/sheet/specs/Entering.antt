@@ -1,5 +1,6 @@
 -- What a sheet answers: the causes of refusal from the top, and where several apply the first speaks.
-use Rattle.std.specs.Prelude.{ℕ, ◌+◌, Bool, false, cond, ◌&&◌, ◌||◌, List, [], ◌∷◌, length, Ok, Err, Result, ◌==◌, nat_le, nat_lt}
+use Rattle.std.specs.Prelude.{ℕ, ◌+◌, Bool, cond, ◌&&◌, ◌||◌, List, length, Ok, Err, Result, ◌==◌, nat_le, nat_lt}
+use Rattle.std.specs.List.{list_any}
 use Rattle.sheet.specs.declared.records.Job.{Job}
 use Rattle.sheet.specs.declared.records.Link.{Link}
 use Rattle.sheet.specs.declared.refusal.Refusal.{Refusal}
@@ -23,8 +24,7 @@ enter_answer e j =
 
 -- whether there is a link from a to b
 abbrev pub has_link : List Link → ℕ → ℕ → Bool
-has_link [] a b = false
-has_link (l ∷ ls) a b = (l.from == a && l.to == b) || has_link ls a b
+has_link ls a b = list_any (λ l. l.from == a && l.to == b) ls
 
 abbrev pub link_answer : Entries → Link → Result (Unit {0}) Refusal
 link_answer e l =

@@ -6,20 +6,16 @@ ghost use Rattle.sheet.specs.Sound.{Entered, Linked};
 ghost use Rattle.sheet.specs.Entering.{has_link, enter_answer, link_answer, move_answer, taken};
 
 use crate::limits::{LAST_MINUTE, LAST_STATION, MAX_DURATION, MAX_JOBS, MAX_LINKS, MAX_WAIT};
-use crate::records::{BLANK_JOB, BLANK_LINK, Job, Link};
+use crate::records::{Job, Link};
 use crate::refusal::Refusal;
 use crate::table::Sheet;
+use arrayvec::ArrayVec;
 
 /// Whether one of the links goes from one job to the other.
 fn has_link(links: &[Link], from: usize, to: usize) -> bool
     ensures { result ≡ has_link links.now from to }
 {
-    for link in links {
-        if link.from == from && link.to == to {
-            return true;
-        }
-    }
-    false
+    links.iter().any(|link| link.from == from && link.to == to)
 }
 
 impl Sheet {
@@ -28,10 +24,8 @@ impl Sheet {
         ensures { entries result ≡ no_entries }
     {
         Sheet {
-            jobs: [BLANK_JOB; MAX_JOBS],
-            job_count: 0,
-            links: [BLANK_LINK; MAX_LINKS],
-            link_count: 0,
+            jobs: ArrayVec::new(),
+            links: ArrayVec::new(),
         }
     }
 
@@ -39,45 +33,14 @@ impl Sheet {
     pub fn jobs(&self) -> &[Job]
         ensures { result.now ≡ (entries self.now).jobs }
     {
-        &self.jobs[0..self.job_count]
+        self.jobs.as_slice()
     }
 
     /// The links, in order of entry.
     pub fn links(&self) -> &[Link]
         ensures { result.now ≡ (entries self.now).links }
     {
-        &self.links[0..self.link_count]
-    }
-
-    /// One job more, with the next number.
-    fn push_job(&mut self, job: Job)
-        requires room { length (entries self.old).jobs < 48 }
-        requires entered { Entered job }
-        ensures { entries self.new ≡ with_job (entries self.old) job }
-    {
-        let number = self.job_count;
-        self.jobs[number] = job;
-        self.job_count = number + 1;
-    }
-
-    /// One link more.
-    fn push_link(&mut self, link: Link)
-        requires room { length (entries self.old).links < 96 }
-        requires linked { Linked (length (entries self.old).jobs) link }
-        ensures { entries self.new ≡ with_link (entries self.old) link }
-    {
-        let number = self.link_count;
-        self.links[number] = link;
-        self.link_count = number + 1;
-    }
-
-    /// Another record for a job.
-    fn replace_job(&mut self, place: usize, job: Job)
-        requires there { place < length (entries self.old).jobs }
-        requires entered { Entered job }
-        ensures { entries self.new ≡ with_job_at (entries self.old) place job }
-    {
-        self.jobs[place] = job;
+        self.links.as_slice()
     }
 
     /// Adds a job and answers its number.
@@ -107,7 +70,7 @@ impl Sheet {
         if release + duration > due {
             return Err(Refusal::WindowTooShort);
         }
-        self.push_job(Job {
+        self.jobs.push(Job {
             station,
             duration,
             release,
@@ -140,7 +103,7 @@ impl Sheet {
         if links.len() >= MAX_LINKS {
             return Err(Refusal::LinksFull);
         }
-        self.push_link(Link { from, to, wait });
+        self.links.push(Link { from, to, wait });
         Ok(())
     }
 
@@ -161,14 +124,11 @@ impl Sheet {
         if release + old.duration > due {
             return Err(Refusal::WindowTooShort);
         }
-        self.replace_job(
-            number,
-            Job {
-                release,
-                due,
-                ..old
-            },
-        );
+        self.jobs.as_mut_slice()[number] = Job {
+            release,
+            due,
+            ..old
+        };
         Ok(())
     }
 }

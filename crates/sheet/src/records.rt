@@ -1,7 +1,7 @@
 // The records of a sheet, and a job's window of starts.
 
 /// A job: one stay of a timber at a station, which takes one job at a time.
-#[derive(Clone, Copy, PartialEq, Eq, Debug)]
+#[derive(Clone, Copy, Default, PartialEq, Eq, Debug)]
 pub struct Job {
     pub station: u32,
     /// Minutes from its start to its end.
@@ -13,7 +13,7 @@ pub struct Job {
 }
 
 /// A link: job `to` starts no sooner than the end of job `from` plus the wait.
-#[derive(Clone, Copy, PartialEq, Eq, Debug)]
+#[derive(Clone, Copy, Default, PartialEq, Eq, Debug)]
 pub struct Link {
     pub from: usize,
     pub to: usize,
@@ -21,23 +21,8 @@ pub struct Link {
 }
 
 /// The starts that are left to a job: from the first, `lo`, to the last, `hi`.
-#[derive(Clone, Copy, PartialEq, Eq, Debug)]
+#[derive(Clone, Copy, Default, PartialEq, Eq, Debug)]
 pub struct Window {
     pub lo: u32,
     pub hi: u32,
 }
-
-/// A place of the table that holds no job.
-pub const BLANK_JOB: Job = Job {
-    station: 0,
-    duration: 0,
-    release: 0,
-    due: 0,
-};
-
-/// A place of the table that holds no link.
-pub const BLANK_LINK: Link = Link {
-    from: 0,
-    to: 0,
-    wait: 0,
-};

@@ -6,55 +6,40 @@ ghost use Rattle.sheet.specs.Refusals.{refusal_number};
 #[derive(Clone, Copy, PartialEq, Eq, Debug)]
 pub enum Refusal {
     /// A job that is not on the sheet.
-    UnknownJob,
+    UnknownJob = 1,
     /// All places for jobs are taken.
-    SheetFull,
+    SheetFull = 2,
     /// A station above the last.
-    UnknownStation,
+    UnknownStation = 3,
     /// A duration of 0, or above the longest.
-    DurationOutOfRange,
+    DurationOutOfRange = 4,
     /// A release or due time after the last minute.
-    TimeOutOfRange,
+    TimeOutOfRange = 5,
     /// A release plus duration above the due time.
-    WindowTooShort,
+    WindowTooShort = 6,
     /// A link from a job to itself.
-    SelfLink,
+    SelfLink = 7,
     /// A wait above the longest.
-    WaitTooLong,
+    WaitTooLong = 8,
     /// A link between two jobs that are linked so already.
-    DuplicateLink,
+    DuplicateLink = 9,
     /// All places for links are taken.
-    LinksFull,
+    LinksFull = 10,
     /// A grant of no looks, or of more than a call may have.
-    LooksOutOfRange,
+    LooksOutOfRange = 11,
     /// A start asked of a search that has found no timetable.
-    NotFound,
+    NotFound = 12,
     /// Windows that no sheet's jobs can have.
-    MalformedWindows,
+    MalformedWindows = 13,
     /// A buffer with less than two bytes a job.
-    BufferTooShort,
+    BufferTooShort = 14,
 }
 
-impl Refusal {
+impl From<Refusal> for u32 {
+    ghost from_gives = { λ refusal number. number ≡ refusal_number refusal };
+
     /// The number that tells the cause.
-    pub fn number(self) -> u32
-        ensures { result ≡ refusal_number self }
-    {
-        match self {
-            Refusal::UnknownJob => 1,
-            Refusal::SheetFull => 2,
-            Refusal::UnknownStation => 3,
-            Refusal::DurationOutOfRange => 4,
-            Refusal::TimeOutOfRange => 5,
-            Refusal::WindowTooShort => 6,
-            Refusal::SelfLink => 7,
-            Refusal::WaitTooLong => 8,
-            Refusal::DuplicateLink => 9,
-            Refusal::LinksFull => 10,
-            Refusal::LooksOutOfRange => 11,
-            Refusal::NotFound => 12,
-            Refusal::MalformedWindows => 13,
-            Refusal::BufferTooShort => 14,
-        }
+    fn from(refusal: Refusal) -> u32 {
+        refusal as u32
     }
 }
