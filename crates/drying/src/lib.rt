@@ -12,8 +12,8 @@ ghost use Rattle.drying.specs.Links.{earliest_not_sooner, drying_keeps, drying_c
 
 use rule::narrowing::Rule;
 use rule::verdict::Verdict;
-use rule::windows::{BLANK_WINDOW, well_formed};
-use sheet::limits::{LAST_MINUTE, MAX_JOBS};
+use rule::windows::{copy_of, put_in_place};
+use sheet::limits::LAST_MINUTE;
 use sheet::records::{Job, Link, Window};
 use sheet::table::Sheet;
 
@@ -47,10 +47,9 @@ impl Drying {
     fn raise(&self, jobs: &[Job], links: &[Link], windows: &[Window], narrowed: &mut [Window])
         requires linked { AllLinked (length jobs.now) links.now }
         requires windows { length windows.now ≡ length jobs.now }
-        requires room { length narrowed.old ≡ length windows.now }
+        requires copy { narrowed.old ≡ windows.now }
         ensures { narrowed.new ≡ tabulate (between (earliest_start self.now jobs.now windows.now links.now) (λ k. (window windows.now k).hi + 1)) (length windows.now) }
     {
-        narrowed.copy_from_slice(windows);
         for link in links {
             let dry = self.dry_at(jobs, windows, *link);
             narrowed[link.to].lo = narrowed[link.to].lo.max(dry);
@@ -71,13 +70,8 @@ impl Rule for Drying {
         } };
 
     fn propagate(&self, sheet: &Sheet, windows: &mut [Window]) -> Verdict {
-        let mut store = [BLANK_WINDOW; MAX_JOBS];
-        let narrowed = &mut store[0..windows.len()];
-        self.raise(sheet.jobs(), sheet.links(), windows, narrowed);
-        if !well_formed(windows.len(), narrowed) {
-            return Verdict::Dead;
-        }
-        windows.copy_from_slice(narrowed);
-        Verdict::Alive
+        let mut narrowed = copy_of(windows);
+        self.raise(sheet.jobs(), sheet.links(), windows, narrowed.as_mut_slice());
+        put_in_place(windows, narrowed.as_slice())
     }
 }

@@ -9,7 +9,7 @@ ghost use Rattle.forbid_all.specs.Single.{single_test, unchanged_within};
 ghost use Rattle.rule.specs.Forming.{dead_not_live};
 
 use rule::narrowing::Rule;
-use rule::verdict::Verdict;
+use rule::verdict::{Dead, Verdict};
 use sheet::records::Window;
 use sheet::table::Sheet;
 
@@ -22,12 +22,7 @@ pub struct ForbidAll;
 fn all_single(windows: &[Window]) -> bool
     ensures { result ≡ all_single windows.now }
 {
-    for w in windows {
-        if w.lo != w.hi {
-            return false;
-        }
-    }
-    true
+    windows.iter().all(|w| w.lo == w.hi)
 }
 
 impl Rule for ForbidAll {
@@ -43,8 +38,8 @@ impl Rule for ForbidAll {
 
     fn propagate(&self, _sheet: &Sheet, windows: &mut [Window]) -> Verdict {
         if all_single(windows) {
-            return Verdict::Dead;
+            return Err(Dead);
         }
-        Verdict::Alive
+        Ok(())
     }
 }

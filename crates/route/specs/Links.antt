@@ -6,13 +6,13 @@ use Rattle.sheet.specs.declared.records.Link.{Link}
 use Rattle.sheet.specs.declared.records.Window.{Window}
 use Rattle.sheet.specs.Entries.{Entries, link}
 use Rattle.sheet.specs.Sound.{Sound}
-use Rattle.rule.specs.Windows.{window, formed, Formed, Inside, Single, starts}
+use Rattle.rule.specs.Windows.{window, all_fine, formed, Formed, Inside, Single, starts}
 use Rattle.rule.specs.Cuts.{dead, live}
-use Rattle.rule.specs.Bounds.{between, tabulate}
+use Rattle.rule.specs.Bounds.{between, tabulate, if_fine}
 use Rattle.rule.specs.Laws.{Keeps}
 use Rattle.rule.proofs.Bounding.{together_live, together_keeps, open_at}
 use Rattle.rule.proofs.Tightest.{tightest_own, tightest_all, tightest_link}
-use Rattle.rule.proofs.Setting.{starts_at, passed_ordered, together_passed, together_failed}
+use Rattle.rule.proofs.Setting.{starts_at, passed_ordered, together_if_fine}
 use Rattle.route.specs.Route.{Holds, AllHold, start_after, past_before, earliest_start, past_latest_start, route_cut}
 
 module _ (js : List Job) (ws : List Window) (ls : List Link) where
@@ -40,18 +40,15 @@ module _ (e : Entries) (s : Sound e) (ws : List Window) (f : Formed (length e.jo
   second_there i h = omega (arith, (s.linked i h).1, f.count)
 
   -- a link with a last start below zero has a second job that starts too late, which the test notices
-  no_end_at_zero : (vs : List Window) → vs ≡ narrowed ws e.jobs e.links → formed (length ws) vs ≡ true → (k : ℕ) → k < length ws → 0 < past_latest_start e.jobs ws e.links k
+  no_end_at_zero : (vs : List Window) → vs ≡ narrowed ws e.jobs e.links → all_fine vs ≡ true → (k : ℕ) → k < length ws → 0 < past_latest_start e.jobs ws e.links k
   no_end_at_zero vs n t k h =
       tightest_all min (λ l. l.from) (past_before e.jobs ws) (λ j. (window ws j).hi + 1) (λ x. 0 < x) (λ x y p q. omega arith) e.links k (omega arith) (λ i l at.
       let second = (link e.links i).to in
       omega (arith, passed_ordered _ _ ws vs n t second (second_there i l), earliest_after_link e.jobs ws e.links i l, latest_not_later e.jobs ws e.links second))
 
-  -- the narrowed copy is set if it is well formed, and the rule is dead if not
-  pub route_passed : (vs : List Window) → vs ≡ narrowed ws e.jobs e.links → formed (length ws) vs ≡ true → route_cut e ws ≡ live vs
-  route_passed vs n t = together_passed _ _ ws vs n t (no_end_at_zero vs n t)
-
-  pub route_failed : (vs : List Window) → vs ≡ narrowed ws e.jobs e.links → formed (length ws) vs ≡ false → route_cut e ws ≡ dead
-  route_failed vs n t = together_failed _ _ ws vs n f (earliest_not_sooner e.jobs ws e.links) (latest_not_later e.jobs ws e.links) t
+  -- the narrowed copy is put in place if it is fine, and the rule is dead if not
+  pub route_if_fine : (vs : List Window) → vs ≡ narrowed ws e.jobs e.links → route_cut e ws ≡ if_fine vs
+  route_if_fine vs n = together_if_fine _ _ ws vs n f (earliest_not_sooner e.jobs ws e.links) (latest_not_later e.jobs ws e.links) (no_end_at_zero vs n)
 
   pub route_keeps : (t : List ℕ) → AllHold e t → Inside t ws → Keeps (route_cut e ws) t
   route_keeps t holds inside =

@@ -11,8 +11,7 @@ ghost use Rattle.route.specs.Links.{earliest_not_sooner, latest_not_later, route
 
 use rule::narrowing::Rule;
 use rule::verdict::Verdict;
-use rule::windows::{BLANK_WINDOW, well_formed};
-use sheet::limits::MAX_JOBS;
+use rule::windows::{copy_of, put_in_place};
 use sheet::records::{Job, Link, Window};
 use sheet::table::Sheet;
 
@@ -27,10 +26,9 @@ fn tighten(jobs: &[Job], links: &[Link], windows: &[Window], narrowed: &mut [Win
     requires entered { AllEntered jobs.now }
     requires linked { AllLinked (length jobs.now) links.now }
     requires formed { formed (length jobs.now) windows.now ≡ true }
-    requires room { length narrowed.old ≡ length windows.now }
+    requires copy { narrowed.old ≡ windows.now }
     ensures { narrowed.new ≡ tabulate (between (earliest_start jobs.now windows.now links.now) (past_latest_start jobs.now windows.now links.now)) (length windows.now) }
 {
-    narrowed.copy_from_slice(windows);
     for link in links {
         let first = windows[link.from];
         let second = windows[link.to];
@@ -55,13 +53,8 @@ impl Rule for Route {
         } };
 
     fn propagate(&self, sheet: &Sheet, windows: &mut [Window]) -> Verdict {
-        let mut store = [BLANK_WINDOW; MAX_JOBS];
-        let narrowed = &mut store[0..windows.len()];
-        tighten(sheet.jobs(), sheet.links(), windows, narrowed);
-        if !well_formed(windows.len(), narrowed) {
-            return Verdict::Dead;
-        }
-        windows.copy_from_slice(narrowed);
-        Verdict::Alive
+        let mut narrowed = copy_of(windows);
+        tighten(sheet.jobs(), sheet.links(), windows, narrowed.as_mut_slice());
+        put_in_place(windows, narrowed.as_slice())
     }
 }

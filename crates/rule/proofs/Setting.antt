@@ -1,14 +1,14 @@
 -- New bounds written into a copy of the windows, which is set if every first start is then at most its last.
 use Rattle.std.proofs.Common.{◌≡◌, ℕ, ◌+◌, ◌-◌, ◌<◌, ◌≤◌, min, max, Bool, true, false, cond, eqb, List, length, get_or, take, set, sym, refl, ap, ◌∙◌, subst, ⊎_elim, arith, length-set, get_or-set_other, get_or-set_same}
 use lib.ListN.{get_or-map}
-use Rattle.std.proofs.lemmas.Bool.{both_ways, cases_Bool, cases_eq, cond-true, cond-false, cond_both, eqb-true, eq-eqb, ne_eqb}
+use Rattle.std.proofs.lemmas.Bool.{both_ways, cases_Bool, cases_eq, cond-true, cond-false, cond_both, and_from, and_parts, eqb-true, eq-eqb, ne_eqb}
 use Rattle.sheet.specs.declared.records.Job.{Job}
 use Rattle.sheet.specs.declared.records.Link.{Link}
 use Rattle.sheet.specs.declared.records.Window.{Window}
 use Rattle.sheet.specs.Entries.{Entries, link}
-use Rattle.rule.specs.Windows.{window, window_of, formed, Formed, Within, starts}
+use Rattle.rule.specs.Windows.{window, window_of, all_fine, formed, Formed, Within, starts}
 use Rattle.rule.specs.Cuts.{dead, live}
-use Rattle.rule.specs.Bounds.{between, tabulate, all_open, together}
+use Rattle.rule.specs.Bounds.{between, tabulate, all_open, together, if_fine}
 use Rattle.rule.specs.Tightest.{tightest}
 use Rattle.rule.specs.Forming.{formed_fact, formed_test, within_formed, window_eq, windows_eq}
 use Rattle.rule.proofs.Bounding.{tabulate_length, tabulate_at, open_from, together_within}
@@ -93,24 +93,35 @@ module _ (at bound : Link → ℕ) (own other : ℕ → ℕ) (ws vs : List Windo
 pub as_entered : (f : List Job → List Link → List Window) (e : Entries) (js : List Job) (ls : List Link) (vs : List Window) → js ≡ e.jobs → ls ≡ e.links → vs ≡ f js ls → vs ≡ f e.jobs e.links
 as_entered f e js ls vs p q made = made ∙ ap (λ (xs : List Job). f xs ls) p ∙ ap (f e.jobs) q
 
--- a copy that was tested for being well formed
+-- a copy that was tested
 module _ (lo end : ℕ → ℕ) (ws vs : List Window) (set_in : vs ≡ tabulate (between lo end) (length ws)) where
-  pub passed_ordered : formed (length ws) vs ≡ true → (k : ℕ) → k < length ws → lo k ≤ end k - 1
+  fine_formed : all_fine vs ≡ true → formed (length ws) vs ≡ true
+  fine_formed t = and_from _ _ (eq-eqb _ _ (ap length set_in ∙ tabulate_length (between lo end) (length ws))) t
+
+  pub passed_ordered : all_fine vs ≡ true → (k : ℕ) → k < length ws → lo k ≤ end k - 1
   passed_ordered t k h =
-      let f = formed_fact vs t in
+      let f = formed_fact vs (fine_formed t) in
       let w : window vs k ≡ between lo end k = ap (λ (us : List Window). window us k) set_in ∙ tabulate_at (between lo end) (length ws) k h in
       subst (λ (v : Window). v.lo ≤ v.hi) w (f.ordered k (omega (arith, f.count)))
 
   -- it is what the cut leaves, unless a last start below zero was put down as 0
-  pub together_passed : formed (length ws) vs ≡ true → ((k : ℕ) → k < length ws → 0 < end k) → together lo end (length ws) ≡ live vs
+  together_passed : all_fine vs ≡ true → ((k : ℕ) → k < length ws → 0 < end k) → together lo end (length ws) ≡ live vs
   together_passed t above =
       cond-true _ _ _ (open_from lo end (length ws) (λ k h. omega (arith, passed_ordered t k h, above k h))) ∙ ap live (sym set_in)
 
-  pub together_failed : {n : ℕ} → Formed n ws → ((k : ℕ) → (window ws k).lo ≤ lo k) → ((k : ℕ) → end k ≤ (window ws k).hi + 1) → formed (length ws) vs ≡ false → together lo end (length ws) ≡ dead
+  together_failed : {n : ℕ} → Formed n ws → ((k : ℕ) → (window ws k).lo ≤ lo k) → ((k : ℕ) → end k ≤ (window ws k).hi + 1) → all_fine vs ≡ false → together lo end (length ws) ≡ dead
   together_failed f low high t =
       ⊎_elim
       (λ (o : all_open lo end (length ws) ≡ true).
       let w : Within vs ws = together_within lo end ws vs (cond-true _ _ _ o ∙ ap live (sym set_in)) (λ k h. low k) (λ k h. high k) in
-      absurd (both_ways _ t (formed_test vs (within_formed vs ws (record { count = refl; ordered = f.ordered; timely = f.timely }) w))))
+      absurd (both_ways _ t (and_parts _ _ (formed_test vs (within_formed vs ws f w))).1))
       (λ (o : all_open lo end (length ws) ≡ false). cond-false _ _ _ o)
       (cases_Bool (all_open lo end (length ws)))
+
+  -- so a cut that sets all bounds together is the copy if it is fine, and dead if not
+  pub together_if_fine : {n : ℕ} → Formed n ws → ((k : ℕ) → (window ws k).lo ≤ lo k) → ((k : ℕ) → end k ≤ (window ws k).hi + 1) → (all_fine vs ≡ true → (k : ℕ) → k < length ws → 0 < end k) → together lo end (length ws) ≡ if_fine vs
+  together_if_fine f low high above =
+      ⊎_elim
+      (λ (t : all_fine vs ≡ true). together_passed t (above t) ∙ sym (cond-true _ _ _ t))
+      (λ (t : all_fine vs ≡ false). together_failed f low high t ∙ sym (cond-false _ _ _ t))
+      (cases_Bool (all_fine vs))

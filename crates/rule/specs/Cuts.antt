@@ -3,21 +3,24 @@ use Rattle.std.specs.Prelude.{ℕ, zero, suc, ◌+◌, ◌-◌, Bool, true, fals
 use Rattle.sheet.specs.declared.records.Window.{Window}
 use Rattle.sheet.specs.declared.refusal.Refusal.{Refusal}
 use Rattle.sheet.specs.declared.refusal.Refusal.TheVariants.{MalformedWindows}
-use Rattle.rule.specs.declared.verdict.Verdict.{Verdict}
-use Rattle.rule.specs.declared.verdict.Verdict.TheVariants.{Alive, Dead}
+use Rattle.rule.specs.declared.verdict.Dead.{Dead}
 use Rattle.rule.specs.Windows.{same}
 
 pub data Cut : Type 0 where
   dead : Cut
   live : List Window → Cut
 
+-- whether a timetable may still lie within the windows
+abbrev pub Verdict : Type 0
+Verdict = Result (Unit {0}) Dead
+
 abbrev pub verdict_number : Verdict → ℕ
-verdict_number Alive = 0
-verdict_number Dead = 1
+verdict_number (Ok u) = 0
+verdict_number (Err d) = 1
 
 abbrev pub verdict_of : Cut → Verdict
-verdict_of dead = Dead
-verdict_of (live vs) = Alive
+verdict_of dead = Err (record {})
+verdict_of (live vs) = Ok tt
 
 -- what the windows then are: left where the rule is dead
 abbrev pub left : Cut → List Window → List Window

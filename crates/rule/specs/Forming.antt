@@ -1,13 +1,10 @@
 -- What the tests of windows say, and windows within windows.
-use Rattle.std.specs.Prelude.{◌≡◌, ℕ, zero, suc, ◌+◌, ◌<◌, ◌≤◌, Bool, true, ◌&&◌, List, [], ◌∷◌, length, drop, ◌≢◌, refl}
-use Rattle.std.proofs.Common.{ap, ◌∙◌, le_of_suc-le-suc, not-suc-le-zero, add-one, arith, drop_of_length-le, drop-cons}
+use Rattle.std.specs.Prelude.{◌≡◌, ℕ, zero, suc, ◌<◌, true, List, [], ◌∷◌, length, ◌≢◌, refl}
+use Rattle.std.proofs.Common.{ap, ◌∙◌, le_of_suc-le-suc, not-suc-le-zero, arith}
 use Rattle.std.proofs.lemmas.Bool.{and_parts, and_from, leb-true, le-leb, eqb-true, eq-eqb}
 use Rattle.sheet.specs.declared.records.Window.{Window}
-use Rattle.rule.specs.Windows.{window, window_of, fine, all_fine, formed, Formed, Within, Single}
+use Rattle.rule.specs.Windows.{window, fine, all_fine, formed, Formed, Within, Single}
 use Rattle.rule.specs.Cuts.{dead, live}
-
-pub fine_step : (ws : List Window) (i : ℕ) → i < length ws → all_fine (drop i ws) ≡ (fine (window ws i) && all_fine (drop (i + 1) ws))
-fine_step ws i h = rw add-one (ap all_fine (drop-cons ws i (window_of 0 0) h))
 
 pub fine_at : (ws : List Window) (k : ℕ) → all_fine ws ≡ true → k < length ws → fine (window ws k) ≡ true
 fine_at [] k e h = absurd (not-suc-le-zero h)
@@ -53,12 +50,6 @@ within_within us vs ws p q = record {
   ordered = λ k h. let l : k < length vs = omega (arith, q.count) in p.ordered k l;
   high = λ k h. let l : k < length vs = omega (arith, q.count) in omega (arith, p.high k l, q.high k h);
 }
-
-pub fine_more : (ws : List Window) (i : ℕ) (b : Bool) → i < length ws → all_fine ws ≡ all_fine (drop i ws) → fine (window ws i) ≡ b → all_fine ws ≡ (b && all_fine (drop (i + 1) ws))
-fine_more ws i b h inv e = inv ∙ fine_step ws i h ∙ ap (λ (x : Bool). x && all_fine (drop (i + 1) ws)) e
-
-pub fine_end : (ws : List Window) (i : ℕ) → length ws ≤ i → all_fine ws ≡ all_fine (drop i ws) → all_fine ws ≡ true
-fine_end ws i h inv = inv ∙ ap all_fine (drop_of_length-le ws h)
 
 pub window_eq : (a b : Window) → a.lo ≡ b.lo → a.hi ≡ b.hi → a ≡ b
 window_eq a b p q =

@@ -1,8 +1,7 @@
 -- One cut after another.
-use Rattle.std.specs.Prelude.{◌≡◌, ℕ, true, List, refl}
+use Rattle.std.specs.Prelude.{◌≡◌, ℕ, true, List, Ok, refl}
 use Rattle.std.proofs.Common.{arith}
 use Rattle.sheet.specs.declared.records.Window.{Window}
-use Rattle.rule.specs.declared.verdict.Verdict.TheVariants.{Alive}
 use Rattle.rule.specs.Windows.{formed, Inside}
 use Rattle.rule.specs.Cuts.{Cut, dead, live, verdict_of, left, then_cut}
 use Rattle.rule.specs.Laws.{Keeps, Lawful}
@@ -16,12 +15,12 @@ pub then_keeps : (c : Cut) (f : List Window → Cut) (t : List ℕ) → Keeps c 
 then_keeps dead f t k n = k
 then_keeps (live vs) f t k n = n vs refl k
 
-pub alive_live : (c : Cut) (ws : List Window) → verdict_of c ≡ Alive → c ≡ live (left c ws)
+pub alive_live : (c : Cut) (ws : List Window) → verdict_of c ≡ Ok tt → c ≡ live (left c ws)
 alive_live dead ws e = let z : ◌≡◌ {A = ℕ} 0 1 = cc in absurd (omega arith)
 alive_live (live vs) ws e = refl
 
 -- what a rule that is not dead leaves is well formed
-pub left_formed : {n : ℕ} {admits : List ℕ → Type 0} {cut : List Window → Cut} → Lawful n admits cut → (ws : List Window) → formed n ws ≡ true → verdict_of (cut ws) ≡ Alive → formed n (left (cut ws) ws) ≡ true
+pub left_formed : {n : ℕ} {admits : List ℕ → Type 0} {cut : List Window → Cut} → Lawful n admits cut → (ws : List Window) → formed n ws ≡ true → verdict_of (cut ws) ≡ Ok tt → formed n (left (cut ws) ws) ≡ true
 left_formed laws ws h e =
     let f = formed_fact ws h in
     formed_test _ (within_formed _ ws f (laws.contracting ws _ f (alive_live _ ws e)))

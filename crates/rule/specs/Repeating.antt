@@ -1,10 +1,10 @@
 -- A cut that is repeated: it stays within the windows, loses nothing, and comes to where repeating comes.
-use Rattle.std.specs.Prelude.{◌≡◌, ℕ, zero, suc, ◌+◌, ◌<◌, ◌≤◌, Bool, true, false, cond, ◌&&◌, List, [], ◌∷◌, length, drop, ◌==◌, ◌≢◌, nat_eq, refl}
-use Rattle.std.proofs.Common.{sym, ap, subst, ◌∙◌, ⊎_elim, add-one, arith, drop_of_length-le, drop-cons}
-use Rattle.std.proofs.lemmas.Bool.{both_ways, cases_Bool, cond-true, cond-false, and_cases, and_parts, and_from, and_right, eqb-true, eqb-false, eq-eqb}
+use Rattle.std.specs.Prelude.{◌≡◌, ℕ, zero, suc, ◌<◌, ◌≤◌, Bool, true, false, not, cond, ◌&&◌, List, [], ◌∷◌, Ok, Result, ◌==◌, ◌≢◌, nat_eq, refl}
+use Rattle.std.proofs.Common.{sym, ap, subst, ◌∙◌, ⊎_elim, arith}
+use Rattle.std.proofs.lemmas.Bool.{both_ways, cases_Bool, cond-true, cond-false, and_cases, and_parts, and_from, eqb-true, eqb-false, eq-eqb}
 use Rattle.sheet.specs.declared.records.Window.{Window}
-use Rattle.rule.specs.Windows.{window, window_of, same, formed, Formed, Within, Inside}
-use Rattle.rule.specs.declared.standstill.Round.TheVariants.{Still, Narrowed}
+use Rattle.rule.specs.Windows.{same, formed, Formed, Within, Inside}
+use Rattle.rule.specs.declared.verdict.Dead.{Dead}
 use Rattle.rule.specs.Cuts.{Cut, dead, live, left, then_cut, width, repeated_for, repeated}
 use Rattle.rule.specs.Rounds.{round_of}
 use Rattle.rule.specs.Laws.{Keeps, Repeats, ends_dead, ends_still, goes_on}
@@ -74,13 +74,16 @@ same_itself (w ∷ ws) = and_from _ _ (and_from _ _ (eq-eqb w.lo w.lo refl) (eq-
 pub same_false : (vs ws : List Window) → same vs ws ≡ false → vs ≢ ws
 same_false vs ws t e = both_ways _ t (subst (λ (us : List Window). same us ws ≡ true) (sym e) (same_itself ws))
 
-narrowed_live : (c : Cut) (ws : List Window) → round_of c ws ≡ Narrowed → (c ≡ live (left c ws)) × (same (left c ws) ws ≡ false)
+ok_same : {b c : Bool} → ◌≡◌ {A = Result Bool Dead} (Ok b) (Ok c) → b ≡ c
+ok_same e = cc
+
+not_true : (b : Bool) → not b ≡ true → b ≡ false
+not_true true e = sym e
+not_true false e = refl
+
+narrowed_live : (c : Cut) (ws : List Window) → round_of c ws ≡ Ok true → (c ≡ live (left c ws)) × (same (left c ws) ws ≡ false)
 narrowed_live dead ws e = let z : ◌≡◌ {A = ℕ} 0 1 = cc in absurd (omega arith)
-narrowed_live (live vs) ws e =
-    ⊎_elim
-    (λ (t : same vs ws ≡ true). let q : Still ≡ Narrowed = sym (cond-true _ _ _ t) ∙ e in let z : ◌≡◌ {A = ℕ} 0 1 = cc in absurd (omega arith))
-    (λ (t : same vs ws ≡ false). (refl, t))
-    (cases_Bool (same vs ws))
+narrowed_live (live vs) ws e = (refl, not_true (same vs ws) (ok_same e))
 
 module _ (f : List Window → Cut) (jobs : ℕ) (one : (ws vs : List Window) → Formed jobs ws → f ws ≡ live vs → Within vs ws) where
   pub repeated_within : (n : ℕ) (ws us : List Window) → Formed jobs ws → repeated_for f n ws ≡ live us → Within us ws
@@ -126,7 +129,7 @@ module _ (f : List Window → Cut) (jobs : ℕ) (one : (ws vs : List Window) →
     pub narrower : width vs < width ws
     pub goes_on : repeated f vs ≡ repeated f ws
 
-  pub narrowing_round : (ws vs : List Window) → formed jobs ws ≡ true → round_of (f ws) ws ≡ Narrowed → vs ≡ left (f ws) ws → Round ws vs
+  pub narrowing_round : (ws vs : List Window) → formed jobs ws ≡ true → round_of (f ws) ws ≡ Ok true → vs ≡ left (f ws) ws → Round ws vs
   narrowing_round ws vs h e q =
       let d = narrowed_live (f ws) ws e in
       let l : f ws ≡ live vs = d.0 ∙ ap live (sym q) in
@@ -156,21 +159,3 @@ module _ (f : List Window → Cut) (jobs : ℕ) (one : (ws vs : List Window) →
 
   pub repeats : (ws : List Window) → Formed jobs ws → Repeats f ws (repeated f ws)
   repeats ws a = repeats_for (suc (width ws)) ws a (omega arith)
-
-pub same_step : (vs ws : List Window) (i : ℕ) → i < length vs → i < length ws → same (drop i vs) (drop i ws) ≡ (((window vs i).lo == (window ws i).lo && (window vs i).hi == (window ws i).hi) && same (drop (i + 1) vs) (drop (i + 1) ws))
-same_step vs ws i h g = rw add-one (ap (λ (x : List Window). same x (drop i ws)) (drop-cons vs i (window_of 0 0) h) ∙ ap (λ (x : List Window). same (window vs i ∷ drop (suc i) vs) x) (drop-cons ws i (window_of 0 0) g))
-
-pub same_apart : (vs ws : List Window) → (length vs ≢ length ws) → same vs ws ≡ false
-same_apart [] [] h = absurd (h refl)
-same_apart [] (w ∷ ws) h = refl
-same_apart (v ∷ vs) [] h = refl
-same_apart (v ∷ vs) (w ∷ ws) h = and_right _ _ (same_apart vs ws (λ e. h (ap suc e)))
-
-pub same_more : (vs ws : List Window) (i : ℕ) (b : Bool) → i < length vs → length vs ≡ length ws → same vs ws ≡ same (drop i vs) (drop i ws) → ((window vs i).lo == (window ws i).lo && (window vs i).hi == (window ws i).hi) ≡ b → same vs ws ≡ (b && same (drop (i + 1) vs) (drop (i + 1) ws))
-same_more vs ws i b h n inv e =
-    inv ∙ same_step vs ws i h (omega arith) ∙ ap (λ (x : Bool). x && same (drop (i + 1) vs) (drop (i + 1) ws)) e
-
-pub same_end : (vs ws : List Window) (i : ℕ) → length vs ≤ i → length vs ≡ length ws → same vs ws ≡ same (drop i vs) (drop i ws) → same vs ws ≡ true
-same_end vs ws i h n inv =
-    let l : length ws ≤ i = omega arith in
-    inv ∙ ap (λ (x : List Window). same x (drop i ws)) (drop_of_length-le vs h) ∙ ap (λ (x : List Window). same [] x) (drop_of_length-le ws l)

@@ -7,7 +7,7 @@ ghost use Rattle.rule.specs.Forming.{within_formed, within_within, within_single
 ghost use Rattle.rule.specs.Piling.{then_live, then_keeps};
 
 use crate::narrowing::Rule;
-use crate::verdict::Verdict;
+use crate::verdict::{Dead, Verdict};
 use crate::windows::copy_of;
 use sheet::records::Window;
 use sheet::table::Sheet;
@@ -41,13 +41,11 @@ impl<A: Rule, B: Rule> Rule for Both<A, B> {
 
     fn propagate(&self, sheet: &Sheet, windows: &mut [Window]) -> Verdict {
         let handed = copy_of(windows);
-        if let Verdict::Dead = self.0.propagate(sheet, windows) {
-            return Verdict::Dead;
-        }
-        if let Verdict::Dead = self.1.propagate(sheet, windows) {
+        self.0.propagate(sheet, windows)?;
+        if let Err(Dead) = self.1.propagate(sheet, windows) {
             windows.copy_from_slice(&handed);
-            return Verdict::Dead;
+            return Err(Dead);
         }
-        Verdict::Alive
+        Ok(())
     }
 }

@@ -12,7 +12,7 @@ ghost use Rattle.rule.specs.Piling.{then_live};
 ghost use Rattle.rule.specs.Repeating.{repeated_within, repeated_keeps};
 
 use crate::narrowing::Rule;
-use crate::verdict::Verdict;
+use crate::verdict::{Dead, Verdict};
 use crate::windows::copy_of;
 use sheet::records::Window;
 use sheet::table::Sheet;
@@ -31,28 +31,15 @@ impl<A: Rule> Standstill<A> {
     }
 }
 
-/// What one round of a rule comes to.
-#[derive(Clone, Copy, PartialEq, Eq, Debug)]
-pub enum Round {
-    Dead,
-    Still,
-    Narrowed,
-}
-
 /// Narrows the windows once more, and tells whether that changed something.
-fn go_round<A: Rule>(rule: &A, sheet: &Sheet, windows: &mut [Window]) -> Round
+fn go_round<A: Rule>(rule: &A, sheet: &Sheet, windows: &mut [Window]) -> Result<bool, Dead>
     requires { formed (length (entries sheet.now).jobs) windows.old ≡ true }
     ensures answer { result ≡ round_of (A.Rule.cut rule.now (entries sheet.now) windows.old) windows.old }
     ensures after { windows.new ≡ left (A.Rule.cut rule.now (entries sheet.now) windows.old) windows.old }
 {
     let before = copy_of(windows);
-    if let Verdict::Dead = rule.propagate(sheet, windows) {
-        return Round::Dead;
-    }
-    if &*windows == before.as_slice() {
-        return Round::Still;
-    }
-    Round::Narrowed
+    rule.propagate(sheet, windows)?;
+    Ok(&*windows != before.as_slice())
 }
 
 impl<A: Rule> Rule for Standstill<A> {
@@ -72,12 +59,12 @@ impl<A: Rule> Rule for Standstill<A> {
         let handed = copy_of(windows);
         loop {
             match go_round(&self.0, sheet, windows) {
-                Round::Dead => {
+                Ok(true) => {}
+                Ok(false) => return Ok(()),
+                Err(Dead) => {
                     windows.copy_from_slice(&handed);
-                    return Verdict::Dead;
+                    return Err(Dead);
                 }
-                Round::Still => return Verdict::Alive,
-                Round::Narrowed => {}
             }
         }
     }

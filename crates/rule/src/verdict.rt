@@ -2,20 +2,19 @@
 ghost use Rattle.std.specs.Prelude.{◌≡◌};
 ghost use Rattle.rule.specs.Cuts.{verdict_number};
 
-/// Whether a timetable may still lie within the windows.
+/// No timetable that the rule admits lies within the windows.
 #[derive(Clone, Copy, PartialEq, Eq, Debug)]
-pub enum Verdict {
-    /// One may, and the windows are the narrowed ones.
-    Alive = 0,
-    /// None does that the rule admits.
-    Dead = 1,
-}
+pub struct Dead;
 
-impl From<Verdict> for u32 {
-    ghost from_gives = { λ verdict number. number ≡ verdict_number verdict };
+/// Whether a timetable may still lie within the windows: `Ok` where one may, and they are the narrowed ones.
+pub type Verdict = Result<(), Dead>;
 
-    /// The number that tells the verdict.
-    fn from(verdict: Verdict) -> u32 {
-        verdict as u32
+/// The number that tells the verdict. No `From`: a `Result` and a `u32` are both the library's.
+pub fn number(verdict: Verdict) -> u32
+    ensures { result ≡ verdict_number verdict }
+{
+    match verdict {
+        Ok(()) => 0,
+        Err(Dead) => 1,
     }
 }

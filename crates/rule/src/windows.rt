@@ -4,7 +4,7 @@ ghost use Rattle.rule.specs.Windows.{all_fine, formed};
 ghost use Rattle.rule.specs.Cuts.{verdict_of, left};
 ghost use Rattle.rule.specs.Bounds.{if_fine};
 
-use crate::verdict::Verdict;
+use crate::verdict::{Dead, Verdict};
 use arrayvec::ArrayVec;
 use sheet::limits::{LAST_MINUTE, MAX_JOBS};
 use sheet::records::Window;
@@ -38,8 +38,8 @@ pub fn put_in_place(windows: &mut [Window], narrowed: &[Window]) -> Verdict
     ensures after { windows.new ≡ left (if_fine narrowed.now) windows.old }
 {
     if !all_fine(narrowed) {
-        return Verdict::Dead;
+        return Err(Dead);
     }
     windows.copy_from_slice(narrowed);
-    Verdict::Alive
+    Ok(())
 }

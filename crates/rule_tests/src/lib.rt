@@ -9,6 +9,7 @@ mod tests {
     use rule::both::Both;
     use rule::narrowing::Rule;
     use rule::standstill::Standstill;
+    use rule::verdict;
     use sheet::records::Window;
     use sheet::refusal::Refusal;
     use sheet::table::Sheet;
@@ -26,8 +27,8 @@ mod tests {
     // The number that a rule's call answers.
     fn number<R: Rule>(rule: &R, sheet: &Sheet, windows: &mut [Window]) -> u32 {
         match rule.narrow(sheet, windows) {
-            Ok(verdict) => verdict.number(),
-            Err(refusal) => refusal.number(),
+            Ok(verdict) => verdict::number(verdict),
+            Err(refusal) => u32::from(refusal),
         }
     }
 

@@ -18,7 +18,7 @@ overflow_add-lo c =
     omega (arith, f.ordered l.from from, f.timely l.from from, (c.requires.entered l.from linked.0).2, linked.3)
 
 pub loop-link-init : goal.loop-link-init
-loop-link-init c = bounded_copy _ _ c.copy_from_slice.ensures.after
+loop-link-init c = bounded_copy _ _ c.requires.copy
 
 pub loop-link-preserved : goal.loop-link-preserved
 loop-link-preserved c =

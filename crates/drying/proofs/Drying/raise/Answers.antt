@@ -8,7 +8,7 @@ use Rattle.drying.specs.Drying.{dry_at, earliest_start}
 use Rattle.drying.proofs.Drying.raise.Goals as goal
 
 pub loop-link-init : goal.loop-link-init
-loop-link-init c = bounded_copy _ _ c.copy_from_slice.ensures.after
+loop-link-init c = bounded_copy _ _ c.requires.copy
 
 pub loop-link-preserved : goal.loop-link-preserved
 loop-link-preserved c =

@@ -13,4 +13,4 @@ propagate-requires-2 g c =
     let r = c.args.self.now.0 in
     let ws = c.args.windows.now in
     ap (λ (vs : List Window). formed (length e.jobs) vs) c.propagate.ensures.after
-    ∙ left_formed (g.met.A.Rule.lawful r e (sheet_sound c.args.sheet.now)) ws c.requires (sym c.in_default.ensures.answer)
+    ∙ left_formed (g.met.A.Rule.lawful r e (sheet_sound c.args.sheet.now)) ws c.requires (sym c.in_ok-propagate.ensures.answer)
