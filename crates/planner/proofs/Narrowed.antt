@@ -22,7 +22,7 @@ use Rattle.planner.specs.States.{entries_of, path_in, windows_in}
 
 module _ {P : Type 0} (s : Search P) where
   pub path_formed : Formed (length (entries_of s).jobs) (windows_in s)
-  path_formed = cut_formed (entered_windows (entries_of s)) (path_in s) (entered_formed (entries_of s) (sheet_sound s.sheet)) s.grown
+  path_formed = cut_formed (entered_windows (entries_of s)) (path_in s) (entered_formed (entries_of s) (sheet_sound s.draft.sheet)) s.grown
 
   -- windows that were entered and then cut down to the path
   pub windows_set : (us vs : List Window) → us ≡ entered_windows (entries_of s) → vs ≡ cut_down us (path_in s) → vs ≡ windows_in s
@@ -50,7 +50,7 @@ module _ {P : Type 0} (s : Search P) where
     -- so that there is a place for it
     pub room_left : (k : ℕ) → Narrowest ws k → length (path_in s) < most_decisions
     room_left k x =
-        let sound = sheet_sound s.sheet in
+        let sound = sheet_sound s.draft.sheet in
         path_short (entered_windows (entries_of s)) (decision_on k (window ws k) ∷ path_in s) sound.few_jobs (entered_formed (entries_of s) sound) (longer_grown k x)
 
     pub pushed_grown : (k : ℕ) (d : Decision) (p : List Decision) → Narrowest ws k → d ≡ decision_on k (window ws k) → p ≡ d ∷ path_in s → Grown (entered_windows (entries_of s)) p

@@ -12,8 +12,7 @@ returns-then-looks-eq0 g c = record {
   answer = search rules;
   state = refl;
   path = path_read c.args.self.now;
-  sheet = refl;
-  pile = refl;
+  draft = refl;
   refused = refl;
   promise = tt;
   instalments = composes (look_in g.P.Rule.cut c.args.self.now);
@@ -22,15 +21,14 @@ returns-then-looks-eq0 g c = record {
 pub returns : goal.returns
 returns g c =
     let s = c.args.self.now in
-    let e = c.make_looks-outcome.ensures in
-    let sound = sheet_sound s.sheet in
+    let e = c.make_looks-made.ensures in
+    let sound = sheet_sound s.draft.sheet in
     record {
       answer = search rules;
       state = e.state;
-      path = path_read c.make_looks-outcome.new.self;
-      sheet = e.sheet;
-      pile = e.pile;
+      path = path_read c.make_looks-made.new.self;
+      draft = e.draft;
       refused = tt;
-      promise = keeps_promise (entries_of s) sound (g.met.P.Rule.lawful s.pile.0 (entries_of s) sound) (state_of s) c.args.looks _ _ e.state e.made;
+      promise = keeps_promise (entries_of s) sound (g.met.P.Rule.lawful s.draft.pile.0 (entries_of s) sound) (state_of s) c.args.looks _ _ e.state e.made;
       instalments = composes (look_in g.P.Rule.cut s);
     }

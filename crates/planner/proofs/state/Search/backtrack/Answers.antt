@@ -24,4 +24,4 @@ invariant_of-self-else-not-backtrack g c =
     }
 
 pub returns-then-not-backtrack : goal.returns-then-not-backtrack
-returns-then-not-backtrack g c = record { state = sym (shut (path_in c.args.self.now) c.if-not-backtrack.ensures.answer); sheet = refl; pile = refl }
+returns-then-not-backtrack g c = record { state = sym (shut (path_in c.args.self.now) c.if-not-backtrack.ensures.answer); draft = refl }
