@@ -9,7 +9,7 @@ use Rattle.rule.specs.Laws.{Lawful}
 use Rattle.rule.specs.Forming.{formed_test}
 use Rattle.search.specs.declared.decision.Decision.{Decision}
 use Rattle.search.specs.Choosing.{Narrowest}
-use Rattle.search.specs.Deciding.{decision_on, cut_down, Grown}
+use Rattle.search.specs.Deciding.{decision_on, Grown}
 use Rattle.search.specs.Entered.{entered_windows}
 use Rattle.search.specs.Looks.{path_of, backtracked}
 use Rattle.search.specs.Paths.{most_decisions}
@@ -23,10 +23,6 @@ use Rattle.planner.specs.States.{entries_of, path_in, windows_in}
 module _ {P : Type 0} (s : Search P) where
   pub path_formed : Formed (length (entries_of s).jobs) (windows_in s)
   path_formed = cut_formed (entered_windows (entries_of s)) (path_in s) (entered_formed (entries_of s) (sheet_sound s.draft.sheet)) s.grown
-
-  -- windows that were entered and then cut down to the path
-  pub windows_set : (us vs : List Window) → us ≡ entered_windows (entries_of s) → vs ≡ cut_down us (path_in s) → vs ≡ windows_in s
-  windows_set us vs a b = b ∙ ap (λ (ws : List Window). cut_down ws (path_in s)) a
 
   pub set_formed : (vs : List Window) → vs ≡ windows_in s → formed (length (entries_of s).jobs) vs ≡ true
   set_formed vs e = ap (formed (length (entries_of s).jobs)) e ∙ formed_test _ path_formed

@@ -1,6 +1,5 @@
 -- How the state of a search reads off its outcome, path and starts.
 use Rattle.std.proofs.Common.{◌≡◌, ℕ, zero, suc, false, List, [], ◌∷◌, length, take, None, Option, sym, refl, ap, ◌∙◌, arith}
-use Rattle.std.proofs.lemmas.List.{nil_from_length}
 use Rattle.std.proofs.lemmas.Bool.{both_ways}
 use Rattle.sheet.specs.declared.records.Window.{Window}
 use Rattle.sheet.specs.Entries.{Entries}
@@ -14,10 +13,9 @@ use Rattle.search.specs.declared.decision.Part.TheVariants.{First, Second}
 use Rattle.search.specs.declared.outcome.Outcome.{Outcome}
 use Rattle.search.specs.declared.outcome.Outcome.TheVariants.{Open, Found, Impossible}
 use Rattle.search.specs.Deciding.{to_second}
-use Rattle.search.specs.Looks.{State, opened, found, impossible, outcome_of, path_of, is_open, by_part, backtracked, branched, one_look, after_looks, looks_made}
+use Rattle.search.specs.Looks.{State, opened, found, impossible, path_of, is_open, by_part, backtracked, branched, one_look, after_looks, looks_made}
 use Rattle.planner.specs.declared.draft.Draft.{Draft}
-use Rattle.planner.specs.declared.state.Search.{Search}
-use Rattle.planner.specs.States.{state_as, path_in, state_of}
+use Rattle.planner.specs.States.{state_as}
 
 pub open_not_impossible : {o : Outcome} → o ≡ Open → o ≡ Impossible → ⊥
 open_not_impossible p q = let z : ◌≡◌ {A = ℕ} 0 1 = cc in omega arith
@@ -60,20 +58,6 @@ settled_made f o p t zero n = refl
 settled_made f Open p t (suc k) n = absurd (n refl)
 settled_made f Found p t (suc k) n = refl
 settled_made f Impossible p t (suc k) n = refl
-
-pub outcome_read : (o : Outcome) (p : List Decision) (t : List ℕ) → o ≡ outcome_of (state_as o p t)
-outcome_read Open p t = refl
-outcome_read Found p t = refl
-outcome_read Impossible p t = refl
-
-path_as : (o : Outcome) (p : List Decision) (t : List ℕ) → (o ≡ Impossible → length p ≡ 0) → p ≡ path_of (state_as o p t)
-path_as Open p t f = refl
-path_as Found p t f = refl
-path_as Impossible p t f = nil_from_length p (f refl)
-
--- the path is that of the state: an impossible search has none
-pub path_read : {P : Type 0} (s : Search P) → path_in s ≡ path_of (state_of s)
-path_read s = path_as s.outcome (path_in s) _ s.no_path
 
 -- searches of one draft look alike
 pub look_same : {P : Type 0} (cut : P → Entries → List Window → Cut) (a b : Draft (Standstill P)) (p : List Decision) → a ≡ b → one_look (cut a.pile.0 (entries a.sheet)) (entries a.sheet) p ≡ one_look (cut b.pile.0 (entries b.sheet)) (entries b.sheet) p

@@ -1,5 +1,5 @@
 -- By the laws of the pile the narrowed windows are well formed, and a job that is split has a place on the path.
-use Rattle.std.proofs.Common.{length, refl, arith}
+use Rattle.std.proofs.Common.{length, arith}
 use Rattle.sheet.proofs.Soundness.{sheet_sound}
 use Rattle.rule.specs.Laws.{Lawful}
 use Rattle.planner.specs.declared.state.Search.{Search}
@@ -35,11 +35,8 @@ note_starts-requires g c =
     let n = (narrowed_formed s (lawful g s) c.args.windows.now c.requires.narrowed).count in
     omega (arith, n, (sheet_sound s.draft.sheet).few_jobs, s.start_places)
 
-pub returns-in-None : goal.returns-in-None
-returns-in-None g c =
+pub returns-in-None-clause-state : goal.returns-in-None-clause-state
+returns-in-None-clause-state g c =
     let s = c.args.self.now in
     let n = (narrowed_formed s (lawful g s) c.args.windows.now c.requires.narrowed).count in
-    record {
-      state = branched_none _ c.args.windows.now (path_in s) _ _ c.in-None.ensures.choice n c.note_starts.ensures;
-      draft = refl;
-    }
+    branched_none _ c.args.windows.now (path_in s) _ _ c.in-None.ensures.choice n c.note_starts.ensures
