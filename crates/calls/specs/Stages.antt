@@ -5,6 +5,7 @@ use Rattle.sheet.specs.declared.refusal.Refusal.{Refusal}
 use Rattle.sheet.specs.Entries.{Entries, no_entries, job_of, link_of, with_job, with_link, moved}
 use Rattle.sheet.specs.Entering.{enter_answer, link_answer, move_answer, taken}
 use Rattle.rule.specs.Cuts.{Cut}
+use Rattle.search.specs.declared.outcome.Outcome.{Outcome}
 use Rattle.search.specs.Looks.{State, opened, one_look, after_looks}
 use Rattle.planner.specs.Calls.{advance_answer, start_answer}
 use Rattle.calls.specs.declared.call.Call.{Call}
@@ -33,7 +34,7 @@ own n = n
 abbrev pub zero : Unit {0} → ℕ
 zero u = 0
 
-abbrev pub advanced_or_refused : Result (ℕ × ℕ) Refusal → Answer
+abbrev pub advanced_or_refused : Result (Outcome × ℕ) Refusal → Answer
 advanced_or_refused (Ok x) = Advanced x.0 x.1
 advanced_or_refused (Err r) = Refused r
 
