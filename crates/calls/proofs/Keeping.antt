@@ -9,7 +9,7 @@ use Rattle.sheet.specs.Sound.{Sound}
 use Rattle.sheet.proofs.Accepting.{none_sound, enter_sound, link_sound, move_sound}
 use Rattle.rule.specs.Cuts.{Cut}
 use Rattle.rule.specs.Laws.{Lawful}
-use Rattle.search.specs.Outcomes.{outcome_number}
+use Rattle.search.specs.declared.outcome.Outcome.{Outcome}
 use Rattle.search.specs.Looks.{State, opened, found, impossible, outcome_of, one_look, after_looks, looks_made}
 use Rattle.search.proofs.Rows.{after_add, made_add}
 use Rattle.planner.specs.Calls.{most_looks, found_start}
@@ -72,7 +72,7 @@ module _ (admits : Entries → List ℕ → Type 0) (cut : Entries → List Wind
     -- an advance by n looks, where b tells whether that is out of range
     advanced : (n : ℕ) (b : Bool) →
         let f = one_look (cut l.closed) l.closed in
-        let r : Result (ℕ × ℕ) Refusal = cond b (Err LooksOutOfRange) (Ok (outcome_number (outcome_of (after_looks f n x)), looks_made f n x)) in
+        let r : Result (Outcome × ℕ) Refusal = cond b (Err LooksOutOfRange) (Ok (outcome_of (after_looks f n x), looks_made f n x)) in
         GoesOn l (Advance n) (advanced_or_refused r) (searching l.closed (taken r x (after_looks f n x)))
     advanced n true = ((refl, g), tt)
     advanced n false =
@@ -84,7 +84,7 @@ module _ (admits : Entries → List ℕ → Type 0) (cut : Entries → List Wind
         ∙ ap (λ (z : State). looks_made f l.granted (opened []) + looks_made f n z) g.granted_looks
         ∙ sym (made_add f l.granted n (opened [])) in (
           (refl, record { unchanged = g.unchanged; sound = g.sound; granted_looks = granted; reported_looks = reported }),
-          advance_owes admits cut lawful (with_advance l n (Advanced (outcome_number (outcome_of y)) (looks_made f n x))) g.sound y granted reported,
+          advance_owes admits cut lawful (with_advance l n (Advanced (outcome_of y) (looks_made f n x))) g.sound y granted reported,
         )
 
     -- a start, where b tells whether the job is not on the sheet

@@ -2,9 +2,9 @@
 use Rattle.std.specs.Prelude.{ℕ, ◌+◌}
 use Rattle.sheet.specs.Entries.{Entries, no_entries, job_of, link_of, with_job, with_link, moved}
 use Rattle.calls.specs.declared.call.Call.{Call}
-use Rattle.calls.specs.declared.call.Call.TheVariants.{Enter, Link, Move, Close, Advance, Start, Reopen}
+use Rattle.calls.specs.declared.call.Call.TheVariants.{Enter, Link, Move, Close, Advance}
 use Rattle.calls.specs.declared.call.Answer.{Answer}
-use Rattle.calls.specs.declared.call.Answer.TheVariants.{Number, Refused, Closed, Advanced, Reopened, OutOfTurn}
+use Rattle.calls.specs.declared.call.Answer.TheVariants.{Number, Closed, Advanced}
 
 pub record Ledger : Type 0 where
   -- the sheet that the accepted calls so far make
@@ -20,30 +20,18 @@ no_calls = record { sheet = no_entries; closed = no_entries; granted = 0; report
 
 abbrev pub if_number : {X : Type 0} → Answer → X → X → X
 if_number (Number n) x y = x
-if_number (Refused r) x y = y
-if_number Closed x y = y
-if_number (Advanced o m) x y = y
-if_number Reopened x y = y
-if_number OutOfTurn x y = y
+if_number _ x y = y
 
 abbrev pub with_sheet : Ledger → Entries → Ledger
 with_sheet l e = record { sheet = e; closed = l.closed; granted = l.granted; reported = l.reported }
 
 abbrev pub with_close : Ledger → Answer → Ledger
-with_close l (Number n) = l
-with_close l (Refused r) = l
 with_close l Closed = record { sheet = l.sheet; closed = l.sheet; granted = 0; reported = 0 }
-with_close l (Advanced o m) = l
-with_close l Reopened = l
-with_close l OutOfTurn = l
+with_close l _ = l
 
 abbrev pub with_advance : Ledger → ℕ → Answer → Ledger
-with_advance l g (Number n) = l
-with_advance l g (Refused r) = l
-with_advance l g Closed = l
 with_advance l g (Advanced o m) = record { sheet = l.sheet; closed = l.closed; granted = l.granted + g; reported = l.reported + m }
-with_advance l g Reopened = l
-with_advance l g OutOfTurn = l
+with_advance l g _ = l
 
 -- one call more, with its answer
 abbrev pub noted : Ledger → Call → Answer → Ledger
@@ -52,5 +40,4 @@ noted l (Link f t w) a = if_number a (with_sheet l (with_link l.sheet (link_of f
 noted l (Move k r d) a = if_number a (with_sheet l (moved l.sheet k r d)) l
 noted l Close a = with_close l a
 noted l (Advance g) a = with_advance l g a
-noted l (Start k) a = l
-noted l Reopen a = l
+noted l _ a = l

@@ -11,4 +11,4 @@ stage_of (Searching s) = searching (entries_of s) (state_of s)
 
 abbrev pub pile_of : {P : Type 0} → Planner P → P
 pile_of (Drafting d) = d.pile
-pile_of (Searching s) = s.pile.0
+pile_of (Searching s) = s.draft.pile.0

@@ -4,16 +4,16 @@ use Rattle.sheet.specs.declared.records.Window.{Window}
 use Rattle.sheet.specs.Entries.{Entries}
 use Rattle.rule.specs.Cuts.{Cut}
 use Rattle.search.specs.declared.decision.Decision.{Decision}
+use Rattle.search.specs.declared.outcome.Outcome.{Outcome}
 use Rattle.search.specs.declared.outcome.Outcome.TheVariants.{Open, Found, Impossible}
-use Rattle.search.specs.Outcomes.{outcome_number}
 use Rattle.search.specs.Entered.{entered_windows}
 use Rattle.search.specs.Counting.{timetables}
 use Rattle.search.specs.Looks.{opened, found, one_look, after_looks}
 use Rattle.search.specs.Promise.{Fits}
 use Rattle.calls.specs.declared.call.Call.{Call}
-use Rattle.calls.specs.declared.call.Call.TheVariants.{Enter, Link, Move, Close, Advance, Start, Reopen}
+use Rattle.calls.specs.declared.call.Call.TheVariants.{Advance, Start}
 use Rattle.calls.specs.declared.call.Answer.{Answer}
-use Rattle.calls.specs.declared.call.Answer.TheVariants.{Number, Refused, Closed, Advanced, Reopened, OutOfTurn}
+use Rattle.calls.specs.declared.call.Answer.TheVariants.{Number, Advanced}
 use Rattle.calls.specs.Ledgers.{Ledger, noted}
 
 -- for a pile that admits these timetables on a sheet, and makes this of windows
@@ -34,47 +34,35 @@ module _ (admits : Entries → List ℕ → Type 0) (cut : Entries → List Wind
   FoundTimetable l t = (p : List Decision) × (after_looks (one_look (cut l.closed) l.closed) l.granted (opened []) ≡ found p t)
 
   -- what an accepted advance owes that answered the outcome o, this advance being noted in the ledger l
-  pub record AdvanceOwes (l : Ledger) (o : ℕ) : Type 0 where
+  pub record AdvanceOwes (l : Ledger) (o : Outcome) : Type 0 where
     -- impossible only if no timetable fits
-    pub no_is_true : o ≡ outcome_number Impossible → NoneFits l
+    pub no_is_true : o ≡ Impossible → NoneFits l
     -- found only with a timetable that fits, that of the search's definition
-    pub found_fits : o ≡ outcome_number Found → (t : List ℕ) × FoundTimetable l t × Fitting l t
+    pub found_fits : o ≡ Found → (t : List ℕ) × FoundTimetable l t × Fitting l t
     -- once the looks granted are at least 2 P - 1: impossible exactly if none fits, and found otherwise
-    pub enough_settles : 2 * possible l - 1 ≤ l.granted → ((o ≡ outcome_number Impossible) ↔ NoneFits l) × ((NoneFits l → ⊥) → o ≡ outcome_number Found)
+    pub enough_settles : 2 * possible l - 1 ≤ l.granted → ((o ≡ Impossible) ↔ NoneFits l) × ((NoneFits l → ⊥) → o ≡ Found)
     -- the looks reported never exceed 2 P - 1
     pub few_looks : l.reported ≤ 2 * possible l - 1
     -- and where it answers open they are those granted
-    pub open_is_spent : o ≡ outcome_number Open → l.reported ≡ l.granted
+    pub open_is_spent : o ≡ Open → l.reported ≡ l.granted
 
   -- an accepted start answers from the timetable that was found
   abbrev pub StartOwes : Ledger → ℕ → ℕ → Type 0
   StartOwes l k n = (t : List ℕ) × FoundTimetable l t × (n ≡ slice_index t k)
 
   abbrev pub AdvanceAnswered : Ledger → Answer → Type 0
-  AdvanceAnswered l (Number n) = Unit {0}
-  AdvanceAnswered l (Refused r) = Unit {0}
-  AdvanceAnswered l Closed = Unit {0}
   AdvanceAnswered l (Advanced o m) = AdvanceOwes l o
-  AdvanceAnswered l Reopened = Unit {0}
-  AdvanceAnswered l OutOfTurn = Unit {0}
+  AdvanceAnswered l _ = Unit {0}
 
   abbrev pub StartAnswered : Ledger → ℕ → Answer → Type 0
   StartAnswered l k (Number n) = StartOwes l k n
-  StartAnswered l k (Refused r) = Unit {0}
-  StartAnswered l k Closed = Unit {0}
-  StartAnswered l k (Advanced o m) = Unit {0}
-  StartAnswered l k Reopened = Unit {0}
-  StartAnswered l k OutOfTurn = Unit {0}
+  StartAnswered l k _ = Unit {0}
 
   -- what one call owes by its answer, both being noted in the ledger l
   abbrev pub Owed : Ledger → Call → Answer → Type 0
-  Owed l (Enter s p r d) a = Unit {0}
-  Owed l (Link f t w) a = Unit {0}
-  Owed l (Move k r d) a = Unit {0}
-  Owed l Close a = Unit {0}
   Owed l (Advance g) a = AdvanceAnswered l a
   Owed l (Start k) a = StartAnswered l k a
-  Owed l Reopen a = Unit {0}
+  Owed l _ a = Unit {0}
 
   -- every call of a list keeps the promise
   abbrev pub PromiseKept : Ledger → List (Call × Answer) → Type 0

@@ -5,6 +5,7 @@ use Rattle.sheet.specs.declared.refusal.Refusal.{Refusal}
 use Rattle.sheet.specs.Entries.{Entries, no_entries, job_of, link_of, with_job, with_link, moved}
 use Rattle.sheet.specs.Entering.{enter_answer, link_answer, move_answer, taken}
 use Rattle.rule.specs.Cuts.{Cut}
+use Rattle.search.specs.declared.outcome.Outcome.{Outcome}
 use Rattle.search.specs.Looks.{State, opened, one_look, after_looks}
 use Rattle.planner.specs.Calls.{advance_answer, start_answer}
 use Rattle.calls.specs.declared.call.Call.{Call}
@@ -33,7 +34,7 @@ own n = n
 abbrev pub zero : Unit {0} → ℕ
 zero u = 0
 
-abbrev pub advanced_or_refused : Result (ℕ × ℕ) Refusal → Answer
+abbrev pub advanced_or_refused : Result (Outcome × ℕ) Refusal → Answer
 advanced_or_refused (Ok x) = Advanced x.0 x.1
 advanced_or_refused (Err r) = Refused r
 
@@ -43,32 +44,19 @@ module _ (cut : Entries → List Window → Cut) where
   answer_of (drafting e) (Link a b w) = numbered zero (link_answer e (link_of a b w))
   answer_of (drafting e) (Move k r d) = numbered zero (move_answer e k r d)
   answer_of (drafting e) Close = Closed
-  answer_of (drafting e) (Advance g) = OutOfTurn
-  answer_of (drafting e) (Start k) = OutOfTurn
-  answer_of (drafting e) Reopen = OutOfTurn
-  answer_of (searching e x) (Enter s p r d) = OutOfTurn
-  answer_of (searching e x) (Link a b w) = OutOfTurn
-  answer_of (searching e x) (Move k r d) = OutOfTurn
-  answer_of (searching e x) Close = OutOfTurn
   answer_of (searching e x) (Advance g) = advanced_or_refused (advance_answer (one_look (cut e) e) g x)
   answer_of (searching e x) (Start k) = numbered own (start_answer (length e.jobs) x k)
   answer_of (searching e x) Reopen = Reopened
+  answer_of _ _ = OutOfTurn
 
   abbrev pub stage_after : Stage → Call → Stage
   stage_after (drafting e) (Enter s p r d) = drafting (taken (enter_answer e (job_of s p r d)) e (with_job e (job_of s p r d)))
   stage_after (drafting e) (Link a b w) = drafting (taken (link_answer e (link_of a b w)) e (with_link e (link_of a b w)))
   stage_after (drafting e) (Move k r d) = drafting (taken (move_answer e k r d) e (moved e k r d))
   stage_after (drafting e) Close = searching e (opened [])
-  stage_after (drafting e) (Advance g) = drafting e
-  stage_after (drafting e) (Start k) = drafting e
-  stage_after (drafting e) Reopen = drafting e
-  stage_after (searching e x) (Enter s p r d) = searching e x
-  stage_after (searching e x) (Link a b w) = searching e x
-  stage_after (searching e x) (Move k r d) = searching e x
-  stage_after (searching e x) Close = searching e x
   stage_after (searching e x) (Advance g) = searching e (taken (advance_answer (one_look (cut e) e) g x) x (after_looks (one_look (cut e) e) g x))
-  stage_after (searching e x) (Start k) = searching e x
   stage_after (searching e x) Reopen = drafting e
+  stage_after s _ = s
 
   -- the calls of h, each with its answer, lead from the stage s to the stage u
   abbrev pub Leads : Stage → List (Call × Answer) → Stage → Type 0

@@ -1,4 +1,5 @@
 // The seven calls as values, and their answers.
+use search::outcome::Outcome;
 use sheet::refusal::Refusal;
 
 /// A call on a draft or a search.
@@ -39,8 +40,8 @@ pub enum Answer {
     Refused(Refusal),
     /// The draft is closed.
     Closed,
-    /// The outcome's number, and the looks made.
-    Advanced(u32, u32),
+    /// The outcome, and the looks made.
+    Advanced(Outcome, u32),
     /// The search is reopened.
     Reopened,
     /// The call belongs to a draft and there is a search, or the other way round; it changed nothing.

@@ -2,7 +2,7 @@
 ghost use Rattle.std.specs.Prelude.{◌≡◌};
 ghost use Rattle.sheet.specs.Sheets.{entries};
 ghost use Rattle.planner.specs.States.{entries_of, state_of};
-ghost use Rattle.calls.specs.Stages.{fresh, drafting, searching, numbered, own, zero, answer_of, stage_after};
+ghost use Rattle.calls.specs.Stages.{fresh, drafting, searching, answer_of, stage_after};
 ghost use Rattle.calls.specs.Planners.{stage_of, pile_of};
 ghost use Rattle.calls.specs.Carrying.{CarriesOn};
 
@@ -11,27 +11,6 @@ use crate::planning::Planner;
 use planner::draft::Draft;
 use planner::state::Search;
 use rule::narrowing::Rule;
-use sheet::refusal::Refusal;
-
-/// The number that an accepted call answers, or its refusal.
-fn number_or_refused(answer: Result<u32, Refusal>) -> Answer
-    ensures { result ≡ numbered own answer }
-{
-    match answer {
-        Ok(number) => Answer::Number(number),
-        Err(refusal) => Answer::Refused(refusal),
-    }
-}
-
-/// 0 for an accepted call, or its refusal.
-fn zero_or_refused(answer: Result<(), Refusal>) -> Answer
-    ensures { result ≡ numbered zero answer }
-{
-    match answer {
-        Ok(()) => Answer::Number(0),
-        Err(refusal) => Answer::Refused(refusal),
-    }
-}
 
 /// A call on a draft.
 fn on_draft<P: Rule>(mut draft: Draft<P>, call: Call) -> (Planner<P>, Answer)
@@ -39,68 +18,47 @@ fn on_draft<P: Rule>(mut draft: Draft<P>, call: Call) -> (Planner<P>, Answer)
     ensures stage { stage_of result.0 ≡ stage_after (P.Rule.cut draft.pile) (drafting (entries draft.sheet)) call }
     ensures pile { pile_of result.0 ≡ draft.pile }
 {
-    match call {
+    let answer = match call {
         Call::Enter {
             station,
             duration,
             release,
             due,
-        } => {
-            let answer = number_or_refused(draft.enter(station, duration, release, due));
-            (Planner::Drafting(draft), answer)
-        }
-        Call::Link { from, to, wait } => {
-            let answer = zero_or_refused(draft.link(from, to, wait));
-            (Planner::Drafting(draft), answer)
-        }
-        Call::Move { job, release, due } => {
-            let answer = zero_or_refused(draft.move_job(job, release, due));
-            (Planner::Drafting(draft), answer)
-        }
-        Call::Close => (Planner::Searching(draft.close()), Answer::Closed),
-        Call::Advance { looks: _ } => (Planner::Drafting(draft), Answer::OutOfTurn),
-        Call::Start { job: _ } => (Planner::Drafting(draft), Answer::OutOfTurn),
-        Call::Reopen => (Planner::Drafting(draft), Answer::OutOfTurn),
-    }
+        } => draft
+            .enter(station, duration, release, due)
+            .map_or_else(Answer::Refused, Answer::Number),
+        Call::Link { from, to, wait } => draft
+            .link(from, to, wait)
+            .map_or_else(Answer::Refused, |()| Answer::Number(0)),
+        Call::Move { job, release, due } => draft
+            .move_job(job, release, due)
+            .map_or_else(Answer::Refused, |()| Answer::Number(0)),
+        Call::Close => return (Planner::Searching(draft.close()), Answer::Closed),
+        Call::Advance { .. } | Call::Start { .. } | Call::Reopen => Answer::OutOfTurn,
+    };
+    (Planner::Drafting(draft), answer)
 }
 
 /// A call on a search.
 fn on_search<P: Rule>(mut search: Search<P>, call: Call) -> (Planner<P>, Answer)
-    ensures answer { result.1 ≡ answer_of (P.Rule.cut search.pile.0) (searching (entries_of search) (state_of search)) call }
-    ensures stage { stage_of result.0 ≡ stage_after (P.Rule.cut search.pile.0) (searching (entries_of search) (state_of search)) call }
-    ensures pile { pile_of result.0 ≡ search.pile.0 }
+    ensures answer { result.1 ≡ answer_of (P.Rule.cut search.draft.pile.0) (searching (entries_of search) (state_of search)) call }
+    ensures stage { stage_of result.0 ≡ stage_after (P.Rule.cut search.draft.pile.0) (searching (entries_of search) (state_of search)) call }
+    ensures pile { pile_of result.0 ≡ search.draft.pile.0 }
 {
-    match call {
-        Call::Advance { looks } => {
-            let answer = match search.advance(looks) {
-                Ok((outcome, made)) => Answer::Advanced(outcome, made),
-                Err(refusal) => Answer::Refused(refusal),
-            };
-            (Planner::Searching(search), answer)
+    let answer = match call {
+        Call::Advance { looks } => search.advance(looks).map_or_else(
+            Answer::Refused,
+            |(outcome, made)| Answer::Advanced(outcome, made),
+        ),
+        Call::Start { job } => search
+            .start(job)
+            .map_or_else(Answer::Refused, Answer::Number),
+        Call::Reopen => return (Planner::Drafting(search.reopen()), Answer::Reopened),
+        Call::Enter { .. } | Call::Link { .. } | Call::Move { .. } | Call::Close => {
+            Answer::OutOfTurn
         }
-        Call::Start { job } => {
-            let answer = number_or_refused(search.start(job));
-            (Planner::Searching(search), answer)
-        }
-        Call::Reopen => (Planner::Drafting(search.reopen()), Answer::Reopened),
-        Call::Enter {
-            station: _,
-            duration: _,
-            release: _,
-            due: _,
-        } => (Planner::Searching(search), Answer::OutOfTurn),
-        Call::Link {
-            from: _,
-            to: _,
-            wait: _,
-        } => (Planner::Searching(search), Answer::OutOfTurn),
-        Call::Move {
-            job: _,
-            release: _,
-            due: _,
-        } => (Planner::Searching(search), Answer::OutOfTurn),
-        Call::Close => (Planner::Searching(search), Answer::OutOfTurn),
-    }
+    };
+    (Planner::Searching(search), answer)
 }
 
 impl<P: Rule> Planner<P> {

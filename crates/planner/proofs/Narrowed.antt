@@ -9,7 +9,7 @@ use Rattle.rule.specs.Laws.{Lawful}
 use Rattle.rule.specs.Forming.{formed_test}
 use Rattle.search.specs.declared.decision.Decision.{Decision}
 use Rattle.search.specs.Choosing.{Narrowest}
-use Rattle.search.specs.Deciding.{decision_on, cut_down, Grown}
+use Rattle.search.specs.Deciding.{decision_on, Grown}
 use Rattle.search.specs.Entered.{entered_windows}
 use Rattle.search.specs.Looks.{path_of, backtracked}
 use Rattle.search.specs.Paths.{most_decisions}
@@ -22,11 +22,7 @@ use Rattle.planner.specs.States.{entries_of, path_in, windows_in}
 
 module _ {P : Type 0} (s : Search P) where
   pub path_formed : Formed (length (entries_of s).jobs) (windows_in s)
-  path_formed = cut_formed (entered_windows (entries_of s)) (path_in s) (entered_formed (entries_of s) (sheet_sound s.sheet)) s.grown
-
-  -- windows that were entered and then cut down to the path
-  pub windows_set : (us vs : List Window) → us ≡ entered_windows (entries_of s) → vs ≡ cut_down us (path_in s) → vs ≡ windows_in s
-  windows_set us vs a b = b ∙ ap (λ (ws : List Window). cut_down ws (path_in s)) a
+  path_formed = cut_formed (entered_windows (entries_of s)) (path_in s) (entered_formed (entries_of s) (sheet_sound s.draft.sheet)) s.grown
 
   pub set_formed : (vs : List Window) → vs ≡ windows_in s → formed (length (entries_of s).jobs) vs ≡ true
   set_formed vs e = ap (formed (length (entries_of s).jobs)) e ∙ formed_test _ path_formed
@@ -50,7 +46,7 @@ module _ {P : Type 0} (s : Search P) where
     -- so that there is a place for it
     pub room_left : (k : ℕ) → Narrowest ws k → length (path_in s) < most_decisions
     room_left k x =
-        let sound = sheet_sound s.sheet in
+        let sound = sheet_sound s.draft.sheet in
         path_short (entered_windows (entries_of s)) (decision_on k (window ws k) ∷ path_in s) sound.few_jobs (entered_formed (entries_of s) sound) (longer_grown k x)
 
     pub pushed_grown : (k : ℕ) (d : Decision) (p : List Decision) → Narrowest ws k → d ≡ decision_on k (window ws k) → p ≡ d ∷ path_in s → Grown (entered_windows (entries_of s)) p

@@ -1,10 +1,7 @@
 -- How the state of a search reads off its outcome, path and starts.
-use Rattle.std.proofs.Common.{◌≡◌, ℕ, zero, suc, ◌<◌, false, List, [], ◌∷◌, length, get_or, take, None, Ok, Option, Result, sym, refl, ap, ◌∙◌, arith}
-use Rattle.std.proofs.lemmas.List.{get_or-take, nil_from_length}
-use Rattle.std.proofs.lemmas.Bool.{both_ways, cond-false, lt-leb}
+use Rattle.std.proofs.Common.{◌≡◌, ℕ, zero, suc, false, List, [], ◌∷◌, length, take, None, Option, sym, refl, ap, ◌∙◌, arith}
+use Rattle.std.proofs.lemmas.Bool.{both_ways}
 use Rattle.sheet.specs.declared.records.Window.{Window}
-use Rattle.sheet.specs.declared.refusal.Refusal.{Refusal}
-use Rattle.sheet.specs.declared.table.Sheet.{Sheet}
 use Rattle.sheet.specs.Entries.{Entries}
 use Rattle.sheet.specs.Sheets.{entries}
 use Rattle.rule.specs.declared.standstill.Standstill.{Standstill}
@@ -16,10 +13,9 @@ use Rattle.search.specs.declared.decision.Part.TheVariants.{First, Second}
 use Rattle.search.specs.declared.outcome.Outcome.{Outcome}
 use Rattle.search.specs.declared.outcome.Outcome.TheVariants.{Open, Found, Impossible}
 use Rattle.search.specs.Deciding.{to_second}
-use Rattle.search.specs.Looks.{State, opened, found, impossible, outcome_of, path_of, is_open, by_part, backtracked, branched, one_look, after_looks, looks_made}
-use Rattle.planner.specs.declared.state.Search.{Search}
-use Rattle.planner.specs.States.{state_as, path_in, state_of}
-use Rattle.planner.specs.Calls.{found_start, start_answer}
+use Rattle.search.specs.Looks.{State, opened, found, impossible, path_of, is_open, by_part, backtracked, branched, one_look, after_looks, looks_made}
+use Rattle.planner.specs.declared.draft.Draft.{Draft}
+use Rattle.planner.specs.States.{state_as}
 
 pub open_not_impossible : {o : Outcome} → o ≡ Open → o ≡ Impossible → ⊥
 open_not_impossible p q = let z : ◌≡◌ {A = ℕ} 0 1 = cc in omega arith
@@ -42,12 +38,6 @@ pub branched_none : (q : Option ℕ) (ws : List Window) (p : List Decision) (n :
 branched_none q ws p n ss e h s =
     ap (λ (k : ℕ). found p (take k ss)) (sym h) ∙ ap (found p) s ∙ ap (λ (x : Option ℕ). branched x ws p) e
 
-pub found_answer : (n : ℕ) (o : Outcome) (p : List Decision) (ss : List ℕ) (k : ℕ) → o ≡ Found → k < n → ◌≡◌ {A = Result ℕ Refusal} (Ok (get_or ss k 0)) (start_answer n (state_as o p (take n ss)) k)
-found_answer n o p ss k e h =
-    ap (λ (v : ℕ). Ok v) (sym (get_or-take n ss k 0 h))
-    ∙ ap (λ (x : Outcome). found_start (state_as x p (take n ss)) k) (sym e)
-    ∙ sym (cond-false _ _ _ (lt-leb n k h))
-
 module _ (f : List Decision → State) (o : Outcome) (p : List Decision) (t : List ℕ) where
   -- a look of an open search, with j looks left after it
   pub open_after : (k j : ℕ) → o ≡ Open → k ≡ suc j → after_looks f k (state_as o p t) ≡ after_looks f j (f p)
@@ -69,21 +59,6 @@ settled_made f Open p t (suc k) n = absurd (n refl)
 settled_made f Found p t (suc k) n = refl
 settled_made f Impossible p t (suc k) n = refl
 
-pub outcome_read : (o : Outcome) (p : List Decision) (t : List ℕ) → o ≡ outcome_of (state_as o p t)
-outcome_read Open p t = refl
-outcome_read Found p t = refl
-outcome_read Impossible p t = refl
-
-path_as : (o : Outcome) (p : List Decision) (t : List ℕ) → (o ≡ Impossible → length p ≡ 0) → p ≡ path_of (state_as o p t)
-path_as Open p t f = refl
-path_as Found p t f = refl
-path_as Impossible p t f = nil_from_length p (f refl)
-
--- the path is that of the state: an impossible search has none
-pub path_read : {P : Type 0} (s : Search P) → path_in s ≡ path_of (state_of s)
-path_read s = path_as s.outcome (path_in s) _ s.no_path
-
--- searches with one pile and one sheet look alike
-pub look_same : {P : Type 0} (cut : P → Entries → List Window → Cut) (a b : Standstill P) (s t : Sheet) (p : List Decision) → a ≡ b → s ≡ t → one_look (cut a.0 (entries s)) (entries s) p ≡ one_look (cut b.0 (entries t)) (entries t) p
-look_same cut a b s t p e h =
-    ap (λ (v : Standstill _). one_look (cut v.0 (entries s)) (entries s) p) e ∙ ap (λ (v : Sheet). one_look (cut b.0 (entries v)) (entries v) p) h
+-- searches of one draft look alike
+pub look_same : {P : Type 0} (cut : P → Entries → List Window → Cut) (a b : Draft (Standstill P)) (p : List Decision) → a ≡ b → one_look (cut a.pile.0 (entries a.sheet)) (entries a.sheet) p ≡ one_look (cut b.pile.0 (entries b.sheet)) (entries b.sheet) p
+look_same cut a b p e = ap (λ (d : Draft (Standstill _)). one_look (cut d.pile.0 (entries d.sheet)) (entries d.sheet) p) e

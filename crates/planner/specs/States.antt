@@ -21,7 +21,7 @@ state_as Impossible p t = impossible
 module _ {P : Type 0} where
   -- the sheet that the search is of
   abbrev pub entries_of : Search P → Entries
-  entries_of s = entries s.sheet
+  entries_of s = entries s.draft.sheet
 
   abbrev pub path_in : Search P → List Decision
   path_in s = decisions s.path
@@ -31,10 +31,10 @@ module _ {P : Type 0} where
 
   -- which timetables the pile admits and what it makes of windows, on the search's sheet, by what it does on any
   abbrev pub admits_in : (P → Entries → List ℕ → Type 0) → Search P → List ℕ → Type 0
-  admits_in admits s = admits s.pile.0 (entries_of s)
+  admits_in admits s = admits s.draft.pile.0 (entries_of s)
 
   abbrev pub cut_in : (P → Entries → List Window → Cut) → Search P → List Window → Cut
-  cut_in cut s = cut s.pile.0 (entries_of s)
+  cut_in cut s = cut s.draft.pile.0 (entries_of s)
 
   -- the entered windows cut down to the path, narrowed to the standstill of the pile
   abbrev pub windows_in : Search P → List Window

@@ -17,41 +17,31 @@ use sheet::table::Sheet;
 pub const MAX_LOOKS: u32 = 1_000_000;
 
 impl<P: Rule> Search<P> {
-    /// Looks until the search is settled or so many are made: the outcome, and how many were made.
-    fn make_looks(&mut self, looks: u32) -> (Outcome, u32)
-        ensures outcome { result.0 ≡ outcome_of (state_of self.new) }
-        ensures made { result.1 ≡ looks_made (look_in P.Rule.cut self.old) looks (state_of self.old) }
+    /// Looks until the search is settled or so many are made, and answers how many were made.
+    fn make_looks(&mut self, looks: u32) -> u32
+        ensures made { result ≡ looks_made (look_in P.Rule.cut self.old) looks (state_of self.old) }
         ensures state { state_of self.new ≡ after_looks (look_in P.Rule.cut self.old) looks (state_of self.old) }
-        ensures sheet { self.new.sheet ≡ self.old.sheet }
-        ensures pile { self.new.pile ≡ self.old.pile }
+        ensures draft { self.new.draft ≡ self.old.draft }
     {
-        let mut made: u32 = 0;
-        let outcome = loop {
-            match self.outcome {
-                Outcome::Open => {}
-                settled => break settled,
-            }
-            if made == looks {
-                break Outcome::Open;
-            }
+        let mut made = 0;
+        while made < looks && self.outcome == Outcome::Open {
             self.look();
             made += 1;
-        };
-        (outcome, made)
+        }
+        made
     }
 
-    /// Grants looks to the search. Answers the number of its outcome and how many looks were made:
-    /// all of them, or fewer where it is settled.
+    /// Grants looks to the search. Answers its outcome and how many looks were made: all of them, or
+    /// fewer where it is settled.
     ///
     /// Whatever advances led here since the close: none fits where the outcome is impossible, the
     /// timetable found fits, and twice the number of timetables within the entered windows, less one,
     /// is enough looks and never passed.
-    pub fn advance(&mut self, looks: u32) -> Result<(u32, u32), Refusal>
+    pub fn advance(&mut self, looks: u32) -> Result<(Outcome, u32), Refusal>
         ensures answer { result ≡ advance_answer (look_in P.Rule.cut self.old) looks (state_of self.old) }
         ensures state { state_of self.new ≡ taken result (state_of self.old) (after_looks (look_in P.Rule.cut self.old) looks (state_of self.old)) }
         ensures path { path_in self.new ≡ path_of (state_of self.new) }
-        ensures sheet { self.new.sheet ≡ self.old.sheet }
-        ensures pile { self.new.pile ≡ self.old.pile }
+        ensures draft { self.new.draft ≡ self.old.draft }
         ensures refused { Untouched result self.old self.new }
         ensures promise { Kept (admits_in P.Rule.admits self.old) (cut_in P.Rule.cut self.old) (entries_of self.old) (state_of self.old) looks result (state_of self.new) }
         ensures instalments { Composes (look_in P.Rule.cut self.old) }
@@ -59,8 +49,8 @@ impl<P: Rule> Search<P> {
         if looks == 0 || looks > MAX_LOOKS {
             return Err(Refusal::LooksOutOfRange);
         }
-        let (outcome, made) = self.make_looks(looks);
-        Ok((outcome.number(), made))
+        let made = self.make_looks(looks);
+        Ok((self.outcome, made))
     }
 }
 
@@ -70,14 +60,11 @@ impl<P> Search<P> {
         ensures { result ≡ start_answer (length (entries_of self.now).jobs) (state_of self.now) job }
     {
         let number = job as usize;
-        if number >= self.sheet.jobs().len() {
+        if number >= self.draft.sheet.jobs().len() {
             return Err(Refusal::UnknownJob);
         }
-        match self.outcome {
-            Outcome::Open => Err(Refusal::NotFound),
-            Outcome::Found => Ok(self.starts[number]),
-            Outcome::Impossible => Err(Refusal::NotFound),
-        }
+        let starts = self.timetable().ok_or(Refusal::NotFound)?;
+        Ok(starts[number])
     }
 
     /// What has come of the search so far.
@@ -92,16 +79,15 @@ impl<P> Search<P> {
         ensures { MatchOption result (timetable_of (state_of self.now) ≡ None) (λ t. timetable_of (state_of self.now) ≡ Some t.now) }
     {
         match self.outcome {
-            Outcome::Open => None,
-            Outcome::Found => Some(&self.starts[0..self.sheet.jobs().len()]),
-            Outcome::Impossible => None,
+            Outcome::Found => Some(&self.starts[..self.draft.sheet.jobs().len()]),
+            Outcome::Open | Outcome::Impossible => None,
         }
     }
 
     /// The sheet as it was closed.
     pub fn sheet(&self) -> &Sheet
-        ensures { result.now ≡ self.now.sheet }
+        ensures { result.now ≡ self.now.draft.sheet }
     {
-        &self.sheet
+        &self.draft.sheet
     }
 }

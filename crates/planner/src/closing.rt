@@ -17,13 +17,15 @@ impl<P: Rule> Draft<P> {
     pub fn close(self) -> Search<P>
         ensures state { state_of result ≡ opened [] }
         ensures blank { Blank result.path }
-        ensures sheet { result.sheet ≡ self.sheet }
-        ensures pile { result.pile.0 ≡ self.pile }
+        ensures sheet { result.draft.sheet ≡ self.sheet }
+        ensures pile { result.draft.pile.0 ≡ self.pile }
     {
         let Draft { sheet, pile } = self;
         Search {
-            sheet,
-            pile: Standstill::of(pile),
+            draft: Draft {
+                sheet,
+                pile: Standstill::of(pile),
+            },
             outcome: Outcome::Open,
             path: Path::new(),
             starts: [0; MAX_JOBS],
@@ -34,17 +36,13 @@ impl<P: Rule> Draft<P> {
 impl<P> Search<P> {
     /// Turns the search into a draft with the sheet as it was closed.
     pub fn reopen(self) -> Draft<P>
-        ensures sheet { result.sheet ≡ self.sheet }
-        ensures pile { result.pile ≡ self.pile.0 }
+        ensures sheet { result.sheet ≡ self.draft.sheet }
+        ensures pile { result.pile ≡ self.draft.pile.0 }
     {
-        let Search {
+        let Draft {
             sheet,
-            pile,
-            outcome: _,
-            path: _,
-            starts: _,
-        } = self;
-        let Standstill(rule) = pile;
+            pile: Standstill(rule),
+        } = self.draft;
         Draft { sheet, pile: rule }
     }
 }

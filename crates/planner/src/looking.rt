@@ -25,7 +25,7 @@ impl<P: Rule> Search<P> {
         ensures windows { windows.new ≡ windows_in self.now }
         ensures formed { formed (length (entries_of self.now).jobs) windows.new ≡ true }
     {
-        enter_windows(&self.sheet, windows);
+        enter_windows(&self.draft.sheet, windows);
         self.path.cut_down(windows);
     }
 
@@ -36,15 +36,14 @@ impl<P: Rule> Search<P> {
         ensures after { windows.new ≡ left (narrowed_in P.Rule.cut self.now) (windows_in self.now) }
     {
         self.set_windows(windows);
-        self.pile.propagate(&self.sheet, windows)
+        self.draft.pile.propagate(&self.draft.sheet, windows)
     }
 
     /// After a dead end: goes back to the last decision on its first part, and takes its second.
     fn backtrack(&mut self)
         requires { self.old.outcome ≡ Open }
         ensures state { state_of self.new ≡ backtracked (path_in self.old) }
-        ensures sheet { self.new.sheet ≡ self.old.sheet }
-        ensures pile { self.new.pile ≡ self.old.pile }
+        ensures draft { self.new.draft ≡ self.old.draft }
     {
         if !self.path.backtrack() {
             self.outcome = Outcome::Impossible;
@@ -56,8 +55,7 @@ impl<P: Rule> Search<P> {
         requires open { self.old.outcome ≡ Open }
         requires narrowed { narrowed_in P.Rule.cut self.old ≡ live windows.now }
         ensures state { state_of self.new ≡ branched (narrowest_of windows.now) windows.now (path_in self.old) }
-        ensures sheet { self.new.sheet ≡ self.old.sheet }
-        ensures pile { self.new.pile ≡ self.old.pile }
+        ensures draft { self.new.draft ≡ self.old.draft }
     {
         match narrowest(windows) {
             Some(job) => self.path.push(Decision::on(job, windows[job])),
@@ -72,11 +70,10 @@ impl<P: Rule> Search<P> {
     pub(crate) fn look(&mut self)
         requires { self.old.outcome ≡ Open }
         ensures state { state_of self.new ≡ look_in P.Rule.cut self.old (path_in self.old) }
-        ensures sheet { self.new.sheet ≡ self.old.sheet }
-        ensures pile { self.new.pile ≡ self.old.pile }
+        ensures draft { self.new.draft ≡ self.old.draft }
     {
         let mut store = [BLANK_WINDOW; MAX_JOBS];
-        let windows = &mut store[0..self.sheet.jobs().len()];
+        let windows = &mut store[..self.draft.sheet.jobs().len()];
         match self.narrow(windows) {
             Verdict::Dead => self.backtrack(),
             Verdict::Alive => self.branch(windows),

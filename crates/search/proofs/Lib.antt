@@ -2,7 +2,6 @@
 pub mod Boxes
 pub mod Counts
 pub mod Nearest
-pub mod Filling
 pub mod Halving
 pub mod Placing
 pub mod Standing

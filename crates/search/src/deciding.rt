@@ -25,9 +25,8 @@ impl Path {
         requires room { length (decisions self.old) < most_decisions }
         ensures { decisions self.new ≡ (decision ∷ decisions self.old) }
     {
-        let depth = self.depth;
-        self.places[depth] = decision;
-        self.depth = depth + 1;
+        self.places[self.depth] = decision;
+        self.depth += 1;
     }
 
     /// After a dead end: drops the last decisions that are on their second part, and takes the next to
@@ -36,16 +35,20 @@ impl Path {
         ensures answer { result ≡ is_open (backtracked (decisions self.old)) }
         ensures after { decisions self.new ≡ path_of (backtracked (decisions self.old)) }
     {
-        while self.depth > 0 {
-            let last = self.depth - 1;
-            let decision = self.places[last];
-            if let Part::First = decision.part {
-                self.places[last] = decision.to_second();
-                return true;
+        let on_first = self.places[..self.depth]
+            .iter()
+            .rposition(|decision| decision.part == Part::First);
+        match on_first {
+            Some(last) => {
+                self.places[last] = self.places[last].to_second();
+                self.depth = last + 1;
+                true
             }
-            self.depth = last;
+            None => {
+                self.depth = 0;
+                false
+            }
         }
-        false
     }
 
     /// Cuts windows down to the parts chosen on the path.
@@ -53,8 +56,7 @@ impl Path {
         requires { Grown windows.old (decisions self.now) }
         ensures { windows.new ≡ cut_down windows.old (decisions self.now) }
     {
-        for i in 0..self.depth {
-            let decision = self.places[i];
+        for decision in &self.places[..self.depth] {
             windows[decision.job] = decision.chosen();
         }
     }

@@ -6,7 +6,7 @@ use rule::windows::BLANK_WINDOW;
 use sheet::records::Window;
 
 /// The two parts of a window that was split.
-#[derive(Clone, Copy)]
+#[derive(Clone, Copy, PartialEq, Eq, Debug)]
 pub enum Part {
     /// To the middle minute.
     First,
@@ -15,7 +15,7 @@ pub enum Part {
 }
 
 /// One job's window, split at its middle minute.
-#[derive(Clone, Copy)]
+#[derive(Clone, Copy, PartialEq, Eq, Debug)]
 pub struct Decision {
     pub job: usize,
     pub window: Window,

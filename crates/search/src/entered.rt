@@ -26,9 +26,9 @@ pub fn enter_windows(sheet: &Sheet, windows: &mut [Window])
     ensures entered { windows.new ≡ entered_windows (entries sheet.now) }
     ensures counted { Counted windows.new }
 {
-    let jobs = sheet.jobs();
-    for i in 0..windows.len() {
-        windows[i] = entered_window(jobs[i]);
+    // By index: after a `zip` with `iter_mut` a proof knows no more of the windows than how many they are.
+    for (i, job) in sheet.jobs().iter().enumerate() {
+        windows[i] = entered_window(*job);
     }
 }
 
@@ -37,7 +37,8 @@ pub fn note_starts(windows: &[Window], starts: &mut [u32])
     requires { length windows.now ≤ length starts.old }
     ensures { take (length windows.now) starts.new ≡ starts_of windows.now }
 {
-    for (i, w) in windows.iter().enumerate() {
-        starts[i] = w.lo;
+    // By index, for the same reason.
+    for (i, window) in windows.iter().enumerate() {
+        starts[i] = window.lo;
     }
 }

@@ -7,6 +7,7 @@ use crate::decision::Decision;
 /// of at most 40,001 starts.
 pub const MAX_DECISIONS: usize = 768;
 
+// An array beside its depth: an `ArrayVec` hides the places past its length, of which `Blank` tells.
 /// Decisions in the order in which they were made. The places past the depth are blank or stale.
 #[derive(Drop)]
 pub struct Path {

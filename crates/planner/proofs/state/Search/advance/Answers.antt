@@ -1,36 +1,19 @@
--- An accepted advance keeps the promise, by the laws of the pile.
-use Rattle.std.proofs.Common.{refl, rules}
+-- An accepted advance keeps the promise, by the laws of the pile, and instalments compose.
 use Rattle.sheet.proofs.Soundness.{sheet_sound}
 use Rattle.search.proofs.Promised.{keeps_promise}
 use Rattle.search.proofs.Rows.{composes}
 use Rattle.planner.specs.States.{entries_of, state_of, look_in}
-use Rattle.planner.proofs.Reading.{path_read}
 use Rattle.planner.proofs.state.Search.advance.Goals as goal
 
-pub returns-then-looks-eq0 : goal.returns-then-looks-eq0
-returns-then-looks-eq0 g c = record {
-  answer = search rules;
-  state = refl;
-  path = path_read c.args.self.now;
-  sheet = refl;
-  pile = refl;
-  refused = refl;
-  promise = tt;
-  instalments = composes (look_in g.P.Rule.cut c.args.self.now);
-}
+pub returns-then-looks-eq0-clause-instalments : goal.returns-then-looks-eq0-clause-instalments
+returns-then-looks-eq0-clause-instalments g c = composes (look_in g.P.Rule.cut c.args.self.now)
 
-pub returns : goal.returns
-returns g c =
+pub returns-clause-promise : goal.returns-clause-promise
+returns-clause-promise g c =
     let s = c.args.self.now in
-    let e = c.make_looks-outcome.ensures in
-    let sound = sheet_sound s.sheet in
-    record {
-      answer = search rules;
-      state = e.state;
-      path = path_read c.make_looks-outcome.new.self;
-      sheet = e.sheet;
-      pile = e.pile;
-      refused = tt;
-      promise = keeps_promise (entries_of s) sound (g.met.P.Rule.lawful s.pile.0 (entries_of s) sound) (state_of s) c.args.looks _ _ e.state e.made;
-      instalments = composes (look_in g.P.Rule.cut s);
-    }
+    let e = c.make_looks-made.ensures in
+    let sound = sheet_sound s.draft.sheet in
+    keeps_promise (entries_of s) sound (g.met.P.Rule.lawful s.draft.pile.0 (entries_of s) sound) (state_of s) c.args.looks _ _ e.state e.made
+
+pub returns-clause-instalments : goal.returns-clause-instalments
+returns-clause-instalments g c = composes (look_in g.P.Rule.cut c.args.self.now)

@@ -1,5 +1,5 @@
 -- The path that is left grew from the entered windows; where none is left the search is impossible.
-use Rattle.std.proofs.Common.{sym, refl}
+use Rattle.std.proofs.Common.{sym}
 use Rattle.planner.specs.States.{path_in}
 use Rattle.planner.proofs.Narrowed.{back_grown}
 use Rattle.planner.proofs.Reading.{shut, shut_path, open_not_impossible}
@@ -23,5 +23,5 @@ invariant_of-self-else-not-backtrack g c =
       no_path = (λ e. absurd (open_not_impossible c.requires e));
     }
 
-pub returns-then-not-backtrack : goal.returns-then-not-backtrack
-returns-then-not-backtrack g c = record { state = sym (shut (path_in c.args.self.now) c.if-not-backtrack.ensures.answer); sheet = refl; pile = refl }
+pub returns-then-not-backtrack-clause-state : goal.returns-then-not-backtrack-clause-state
+returns-then-not-backtrack-clause-state g c = sym (shut (path_in c.args.self.now) c.if-not-backtrack.ensures.answer)

@@ -1,5 +1,5 @@
 -- By the laws of the pile the narrowed windows are well formed, and a job that is split has a place on the path.
-use Rattle.std.proofs.Common.{length, refl, arith}
+use Rattle.std.proofs.Common.{length, arith}
 use Rattle.sheet.proofs.Soundness.{sheet_sound}
 use Rattle.rule.specs.Laws.{Lawful}
 use Rattle.planner.specs.declared.state.Search.{Search}
@@ -10,7 +10,7 @@ use Rattle.planner.proofs.state.Search.branch.Given as given
 use Rattle.planner.proofs.state.Search.branch.Goals as goal
 
 lawful : (g : given.Over) (s : Search g.row.P.Denot) → Lawful (length (entries_of s).jobs) (admits_in g.P.Rule.admits s) (cut_in g.P.Rule.cut s)
-lawful g s = g.met.P.Rule.lawful s.pile.0 (entries_of s) (sheet_sound s.sheet)
+lawful g s = g.met.P.Rule.lawful s.draft.pile.0 (entries_of s) (sheet_sound s.draft.sheet)
 
 pub narrowest-requires : goal.narrowest-requires
 narrowest-requires g c = let s = c.args.self.now in narrowed_fine s (lawful g s) c.args.windows.now c.requires.narrowed
@@ -33,14 +33,10 @@ pub note_starts-requires : goal.note_starts-requires
 note_starts-requires g c =
     let s = c.args.self.now in
     let n = (narrowed_formed s (lawful g s) c.args.windows.now c.requires.narrowed).count in
-    omega (arith, n, (sheet_sound s.sheet).few_jobs, s.start_places)
+    omega (arith, n, (sheet_sound s.draft.sheet).few_jobs, s.start_places)
 
-pub returns-in-None : goal.returns-in-None
-returns-in-None g c =
+pub returns-in-None-clause-state : goal.returns-in-None-clause-state
+returns-in-None-clause-state g c =
     let s = c.args.self.now in
     let n = (narrowed_formed s (lawful g s) c.args.windows.now c.requires.narrowed).count in
-    record {
-      state = branched_none _ c.args.windows.now (path_in s) _ _ c.in-None.ensures.choice n c.note_starts.ensures;
-      sheet = refl;
-      pile = refl;
-    }
+    branched_none _ c.args.windows.now (path_in s) _ _ c.in-None.ensures.choice n c.note_starts.ensures

@@ -4,13 +4,15 @@ use Rattle.search.specs.Looks.{after_looks, looks_made}
 use Rattle.planner.specs.States.{state_of, look_in}
 use Rattle.planner.proofs.state.Search.make_looks.Given as goal
 
-abbrev pub invariant-loop-self : goal.invariant-loop-self
-invariant-loop-self g l =
-    (l.self.sheet ≡ l.initial.self.sheet)
-    × (l.self.pile ≡ l.initial.self.pile)
-    × (l.made ≤ l.looks)
-    × (after_looks (look_in g.P.Rule.cut l.initial.self) (l.looks - l.made) (state_of l.self) ≡ after_looks (look_in g.P.Rule.cut l.initial.self) l.looks (state_of l.initial.self))
-    × (l.made + looks_made (look_in g.P.Rule.cut l.initial.self) (l.looks - l.made) (state_of l.self) ≡ looks_made (look_in g.P.Rule.cut l.initial.self) l.looks (state_of l.initial.self))
+abbrev pub invariant-loop-made : goal.invariant-loop-made
+invariant-loop-made g l =
+    let F = look_in g.P.Rule.cut l.initial.self in
+    record {
+      draft : l.self.draft ≡ l.initial.self.draft;
+      granted : l.made ≤ l.looks;
+      after : after_looks F (l.looks - l.made) (state_of l.self) ≡ after_looks F l.looks (state_of l.initial.self);
+      made : l.made + looks_made F (l.looks - l.made) (state_of l.self) ≡ looks_made F l.looks (state_of l.initial.self);
+    }
 
-abbrev pub decreases-loop-self : goal.decreases-loop-self
-decreases-loop-self g l = l.looks - l.made
+abbrev pub decreases-loop-made : goal.decreases-loop-made
+decreases-loop-made g l = l.looks - l.made

@@ -1,9 +1,7 @@
--- The windows are those of the path, and well formed.
-use Rattle.planner.proofs.Narrowed.{windows_set, set_formed}
+-- The windows of the path are well formed.
+use Rattle.std.proofs.Common.{rules}
+use Rattle.planner.proofs.Narrowed.{set_formed}
 use Rattle.planner.proofs.state.Search.set_windows.Goals as goal
 
-pub returns : goal.returns
-returns g c =
-    let s = c.args.self.now in
-    let e = windows_set s _ _ c.enter_windows.ensures.entered c.cut_down.ensures in
-    record { windows = e; formed = set_formed s _ e }
+pub returns-clause-formed : goal.returns-clause-formed
+returns-clause-formed g c = set_formed c.args.self.now c.cut_down.new.windows (search rules)

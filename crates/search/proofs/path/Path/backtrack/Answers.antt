@@ -1,18 +1,23 @@
--- In each turn a decision on its second part is dropped, or one on its first goes to its second.
-use Rattle.std.proofs.Common.{◌-◌, ◌≤◌, length, set, ap, ◌∙◌, arith}
-use Rattle.search.specs.declared.decision.Decision.{Decision}
-use Rattle.search.proofs.Placing.{newest, back_dropped, back_turned}
+-- The last decision on its first part goes to its second, and those after it are dropped.
+use Rattle.std.proofs.Common.{◌≡◌, ℕ, ◌<◌, arith, rules}
+use Rattle.std.proofs.iter.runs.Made.{chains}
+use Rattle.search.specs.declared.decision.Part.TheVariants.{First, Second}
+use Rattle.search.proofs.Placing.{part_at, back_dead, back_open}
 use Rattle.search.proofs.path.Path.backtrack.Goals as goal
 
-pub returns-in-First : goal.returns-in-First
-returns-in-First c =
-    let p = c.loop-self.self in
-    let l : p.depth ≤ length p.places = omega (arith, c.loop-self.invariant.1, c.loop-self.invariant.2) in
-    let t = back_turned p.places p.depth _ c.loop-self-test.true l c.in-First.is c.loop-self.invariant.0 in
-    record { answer = t.answer; after = ap (λ (d : Decision). newest (set p.places (p.depth - 1) d) p.depth) c.to_second.ensures ∙ t.after }
+pub returns-in-Some : goal.returns-in-Some
+returns-in-Some c =
+    let p = c.args.self.now in
+    let i = c.in-Some.last in
+    let h : i < p.depth = search rules in
+    let e : part_at p.places p.depth i ≡ First = search (rules, chains) in
+    let f : (k : ℕ) → i < k → k < p.depth → part_at p.places p.depth k ≡ Second = search (rules, chains) in
+    let b = back_open p.places p.depth i c.to_second.result h (omega arith) c.to_second.ensures e f in
+    record { answer = b.answer; after = b.after }
 
-pub loop-self-preserved : goal.loop-self-preserved
-loop-self-preserved c =
-    let p = c.loop-self.self in
-    let l : p.depth ≤ length p.places = omega (arith, c.loop-self.invariant.1, c.loop-self.invariant.2) in
-    (back_dropped p.places p.depth _ c.loop-self-test.true l c.in_default.not-First c.loop-self.invariant.0, omega (arith, c.loop-self.invariant.1), c.loop-self.invariant.2)
+pub returns-in-None : goal.returns-in-None
+returns-in-None c =
+    let p = c.args.self.now in
+    let f : (k : ℕ) → k < p.depth → part_at p.places p.depth k ≡ Second = search (rules, chains) in
+    let b = back_dead p.places p.depth (omega arith) f in
+    record { answer = b.answer; after = b.after }
