@@ -1,22 +1,22 @@
 -- The search that the values of the code stand for, and its looks.
-use Rattle.std.specs.Prelude.{ℕ, List, length, take}
+use Rattle.std.specs.Prelude.{ℕ, List}
 use Rattle.sheet.specs.declared.records.Window.{Window}
 use Rattle.sheet.specs.Entries.{Entries}
 use Rattle.sheet.specs.Sheets.{entries}
 use Rattle.rule.specs.Cuts.{Cut, repeated}
 use Rattle.search.specs.declared.decision.Decision.{Decision}
-use Rattle.search.specs.declared.outcome.Outcome.{Outcome}
-use Rattle.search.specs.declared.outcome.Outcome.TheVariants.{Open, Found, Impossible}
 use Rattle.search.specs.Deciding.{cut_down}
 use Rattle.search.specs.Entered.{entered_windows}
 use Rattle.search.specs.Looks.{State, opened, found, impossible, one_look}
 use Rattle.search.specs.Paths.{decisions}
 use Rattle.planner.specs.declared.state.Search.{Search}
+use Rattle.planner.specs.declared.state.Standing.{Standing}
+use Rattle.planner.specs.declared.state.Standing.TheVariants.{Open, Found, Impossible}
 
-abbrev pub state_as : Outcome → List Decision → List ℕ → State
-state_as Open p t = opened p
-state_as Found p t = found p t
-state_as Impossible p t = impossible
+abbrev pub state_at : Standing → List Decision → State
+state_at Open p = opened p
+state_at (Found t) p = found p t.items
+state_at Impossible p = impossible
 
 module _ {P : Type 0} where
   -- the sheet that the search is of
@@ -27,7 +27,7 @@ module _ {P : Type 0} where
   path_in s = decisions s.path
 
   abbrev pub state_of : Search P → State
-  state_of s = state_as s.outcome (path_in s) (take (length (entries_of s).jobs) s.starts)
+  state_of s = state_at s.standing (path_in s)
 
   -- which timetables the pile admits and what it makes of windows, on the search's sheet, by what it does on any
   abbrev pub admits_in : (P → Entries → List ℕ → Type 0) → Search P → List ℕ → Type 0

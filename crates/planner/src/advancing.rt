@@ -7,7 +7,7 @@ ghost use Rattle.planner.specs.States.{entries_of, path_in, state_of, admits_in,
 ghost use Rattle.planner.specs.Calls.{advance_answer, start_answer, timetable_of, Untouched};
 ghost use Rattle.planner.specs.Keeping.{Kept};
 
-use crate::state::Search;
+use crate::state::{Search, Standing};
 use rule::narrowing::Rule;
 use search::outcome::Outcome;
 use sheet::refusal::Refusal;
@@ -24,7 +24,7 @@ impl<P: Rule> Search<P> {
         ensures draft { self.new.draft ≡ self.old.draft }
     {
         let mut made = 0;
-        while made < looks && self.outcome == Outcome::Open {
+        while made < looks && self.outcome() == Outcome::Open {
             self.look();
             made += 1;
         }
@@ -50,7 +50,7 @@ impl<P: Rule> Search<P> {
             return Err(Refusal::LooksOutOfRange);
         }
         let made = self.make_looks(looks);
-        Ok((self.outcome, made))
+        Ok((self.outcome(), made))
     }
 }
 
@@ -71,16 +71,20 @@ impl<P> Search<P> {
     pub fn outcome(&self) -> Outcome
         ensures { result ≡ outcome_of (state_of self.now) }
     {
-        self.outcome
+        match &self.standing {
+            Standing::Open => Outcome::Open,
+            Standing::Found(_) => Outcome::Found,
+            Standing::Impossible => Outcome::Impossible,
+        }
     }
 
     /// The timetable that was found: each job's start, by number.
     pub fn timetable(&self) -> Option<&[u32]>
         ensures { MatchOption result (timetable_of (state_of self.now) ≡ None) (λ t. timetable_of (state_of self.now) ≡ Some t.now) }
     {
-        match self.outcome {
-            Outcome::Found => Some(&self.starts[..self.draft.sheet.jobs().len()]),
-            Outcome::Open | Outcome::Impossible => None,
+        match &self.standing {
+            Standing::Found(starts) => Some(starts.as_slice()),
+            Standing::Open | Standing::Impossible => None,
         }
     }
 

@@ -5,12 +5,10 @@ ghost use Rattle.search.specs.Paths.{Blank};
 ghost use Rattle.planner.specs.States.{state_of};
 
 use crate::draft::Draft;
-use crate::state::Search;
+use crate::state::{Search, Standing};
 use rule::narrowing::Rule;
 use rule::standstill::Standstill;
-use search::outcome::Outcome;
 use search::path::Path;
-use sheet::limits::MAX_JOBS;
 
 impl<P: Rule> Draft<P> {
     /// Turns the draft into a search that is open, with an empty path.
@@ -26,9 +24,8 @@ impl<P: Rule> Draft<P> {
                 sheet,
                 pile: Standstill::of(pile),
             },
-            outcome: Outcome::Open,
+            standing: Standing::Open,
             path: Path::new(),
-            starts: [0; MAX_JOBS],
         }
     }
 }

@@ -4,7 +4,7 @@ ghost use Rattle.search.specs.Deciding.{cut_down, Grown};
 ghost use Rattle.search.specs.Looks.{backtracked, is_open, path_of};
 ghost use Rattle.search.specs.Paths.{decisions, most_decisions, Blank};
 
-use crate::decision::{BLANK_DECISION, Decision, Part};
+use crate::decision::{Decision, Part};
 use crate::path::{MAX_DECISIONS, Path};
 use sheet::records::Window;
 
@@ -15,7 +15,7 @@ impl Path {
         ensures blank { Blank result }
     {
         Path {
-            places: [BLANK_DECISION; MAX_DECISIONS],
+            places: [Decision::default(); MAX_DECISIONS],
             depth: 0,
         }
     }

@@ -2,20 +2,20 @@
 ghost use Rattle.std.specs.Prelude.{◌≡◌, ◌<◌, ◌≤◌};
 ghost use Rattle.search.specs.Deciding.{decision_on, chosen, to_second};
 
-use rule::windows::BLANK_WINDOW;
 use sheet::records::Window;
 
 /// The two parts of a window that was split.
-#[derive(Clone, Copy, PartialEq, Eq, Debug)]
+#[derive(Clone, Copy, Default, PartialEq, Eq, Debug)]
 pub enum Part {
     /// To the middle minute.
+    #[default]
     First,
     /// From the minute after it.
     Second,
 }
 
 /// One job's window, split at its middle minute.
-#[derive(Clone, Copy, PartialEq, Eq, Debug)]
+#[derive(Clone, Copy, Default, PartialEq, Eq, Debug)]
 pub struct Decision {
     pub job: usize,
     pub window: Window,
@@ -23,14 +23,6 @@ pub struct Decision {
     /// The part that is looked at.
     pub part: Part,
 }
-
-/// A place of a path that holds no decision yet.
-pub const BLANK_DECISION: Decision = Decision {
-    job: 0,
-    window: BLANK_WINDOW,
-    middle: 0,
-    part: Part::First,
-};
 
 impl Decision {
     /// The decision on a job's window, on its first part.

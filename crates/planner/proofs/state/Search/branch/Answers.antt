@@ -5,7 +5,7 @@ use Rattle.rule.specs.Laws.{Lawful}
 use Rattle.planner.specs.declared.state.Search.{Search}
 use Rattle.planner.specs.States.{entries_of, path_in, admits_in, cut_in}
 use Rattle.planner.proofs.Narrowed.{narrowed_fine, narrowed_formed, room_left, pushed_grown}
-use Rattle.planner.proofs.Reading.{open_not_impossible, branched_none}
+use Rattle.planner.proofs.Reading.{open_not_found, open_not_impossible, branched_none}
 use Rattle.planner.proofs.state.Search.branch.Given as given
 use Rattle.planner.proofs.state.Search.branch.Goals as goal
 
@@ -24,19 +24,7 @@ pub invariant_of-self : goal.invariant_of-self
 invariant_of-self g c =
     let s = c.args.self.now in
     record {
-      start_places = s.start_places;
       grown = pushed_grown s (lawful g s) c.args.windows.now c.requires.narrowed c.in-Some.job _ _ c.in-Some.ensures.chooses c.on.ensures c.push.ensures;
+      one_each = (λ t e. absurd (open_not_found c.requires.open t e));
       no_path = (λ e. absurd (open_not_impossible c.requires.open e));
     }
-
-pub note_starts-requires : goal.note_starts-requires
-note_starts-requires g c =
-    let s = c.args.self.now in
-    let n = (narrowed_formed s (lawful g s) c.args.windows.now c.requires.narrowed).count in
-    omega (arith, n, (sheet_sound s.draft.sheet).few_jobs, s.start_places)
-
-pub returns-in-None-clause-state : goal.returns-in-None-clause-state
-returns-in-None-clause-state g c =
-    let s = c.args.self.now in
-    let n = (narrowed_formed s (lawful g s) c.args.windows.now c.requires.narrowed).count in
-    branched_none _ c.args.windows.now (path_in s) _ _ c.in-None.ensures.choice n c.note_starts.ensures

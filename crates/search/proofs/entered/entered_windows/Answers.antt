@@ -1,6 +1,6 @@
 -- How many timetables lie within any windows.
 use Rattle.search.proofs.Counts.{counted}
-use Rattle.search.proofs.entered.enter_windows.Goals as goal
+use Rattle.search.proofs.entered.entered_windows.Goals as goal
 
 pub returns-clause-counted : goal.returns-clause-counted
 returns-clause-counted c = counted _
