@@ -1,7 +1,8 @@
 -- Splitting bytes, and joining the parts again.
-use Rattle.std.proofs.Common.{◌≡◌, ℕ, suc, ◌+◌, true, false, cond, eqb, ltb, List, [], ◌∷◌, ◌++◌, length, take, drop, Some, None, Option, position, refl, arith, one-add, add-one}
-use Rattle.std.specs.List.{position_or_len}
+use Rattle.std.proofs.Common.{◌≡◌, ℕ, suc, ◌+◌, Bool, true, false, cond, eqb, ltb, List, [], ◌∷◌, ◌++◌, length, get_or, take, drop, Some, None, Option, MatchBool, position, refl, ap, ◌∙◌, subst, arith, one-add, add-one}
+use Rattle.std.specs.List.{position_or_len, AllWithin, IsFirstMatchOrLen}
 use Rattle.std.proofs.lemmas.Bool.{eq-eqb, ne_eqb, eqb-true, eqb-false, ltb-true, ltb-false, lt-ltb, le-ltb, cond_both}
+use Rattle.std.proofs.lemmas.Grind.{common_steps}
 use Rattle.text.specs.Splitting.{Parts, last, next, onto_first, split, Without}
 
 pub split_next : (sep : ℕ) (xs ys : List ℕ) → Without sep xs → split sep (xs ++ (sep ∷ ys)) ≡ next xs (split sep ys)
@@ -65,3 +66,16 @@ first_cut sep (b ∷ bs) =
     cond_both (eqb b sep) (next [] (split sep bs)) (onto_first b (split sep bs)) (λ ps. ps ≡ cut_at sep (b ∷ bs) (position (λ b. eqb b sep) (b ∷ bs)))
     (λ e. let t : ltb 0 (length (b ∷ bs)) ≡ true = lt-ltb _ _ (omega arith) in rw (e, t))
     (λ e. rw (e, one-add, first_cut sep bs) (onto_cut sep b (position_or_len (λ b. eqb b sep) bs) bs))
+
+without_from : (sep : ℕ) (xs : List ℕ) → AllWithin (λ b. eqb b sep ≡ false) xs 0 (length xs) → Without sep xs
+without_from sep [] f = tt
+without_from sep (b ∷ bs) f = (eqb-false b sep (f 0 0 (omega arith) (omega arith)), without_from sep bs (λ k d l h. f (suc k) d (omega arith) (omega arith)))
+
+-- as `split` of a slice takes off one part
+pub split_part : (sep : ℕ) (xs x rest : List ℕ) (done : Bool) → MatchBool done (xs ≡ x) ((y : ℕ) × (xs ≡ x ++ (y ∷ rest))) → IsFirstMatchOrLen (λ b. eqb b sep) xs (length x)
+    → split sep xs ≡ cond done (last x) (next x (split sep rest))
+split_part sep xs x rest true e h = ap (split sep) e ∙ split_last sep x (without_from sep x (λ k d l b. subst (λ ys. eqb (get_or ys k d) sep ≡ false) e (h.0 k d l b)))
+split_part sep xs x rest false e h =
+    let front : AllWithin (λ b. eqb b sep ≡ false) x 0 (length x) = λ k d l b. let a = h.0 k d l b in let q = e.1 in grind (arith, common_steps) in
+    let hit : e.0 ≡ sep = let q = e.1 in let a = h.1 (grind (arith, common_steps)) e.0 in grind (arith, common_steps, eqb-true) in
+    ap (split sep) (e.1 ∙ ap (λ (b : ℕ). x ++ (b ∷ rest)) hit) ∙ split_next sep x rest (without_from sep x front)
