@@ -9,11 +9,11 @@ use Rattle.slip.specs.declared.fault.Fault.{Fault}
 use Rattle.slip.specs.declared.fault.Fault.TheVariants.{TooLong, Unfinished, BadLetter, BadFields, UntrueTrailer, Refused}
 use Rattle.slip.specs.Adding.{add_job, add_link, add_all, Enterable}
 use Rattle.slip.specs.Faults.{fault_line, last_line}
-use Rattle.slip.proofs.Results.{ok_same, then_ok, unless_refused_ok}
+use Rattle.slip.proofs.Results.{then_ok, unless_refused_ok}
 use Rattle.slip.specs.Faulty.{Faulty, LineHas, line_count, RunsOut, LineAtFault, BytesLeftOver, LineAfterTrailer}
 
 all_sound : {X : Type 0} (add : Entries → X → Result Entries Refusal) → ((b c : Entries) (x : X) → Sound b → add b x ≡ Ok c → Sound c) → (xs : List X) (b c : Entries) → Sound b → add_all add b xs ≡ Ok c → Sound c
-all_sound add keeps [] b c s e = subst Sound (ok_same b c e) s
+all_sound add keeps [] b c s e = let q : b ≡ c = cc in subst Sound q s
 all_sound add keeps (x ∷ xs) b c s e =
     let d = then_ok (add b x) _ c e in
     all_sound add keeps xs d.0 c (keeps b d.0 x s d.1) d.2

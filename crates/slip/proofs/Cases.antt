@@ -6,10 +6,11 @@ use Rattle.slip.specs.declared.fault.Fault.{Fault}
 use Rattle.slip.specs.declared.fault.Fault.TheVariants.{BadFields}
 use Rattle.slip.specs.declared.kind.Kind.{Kind}
 use Rattle.slip.specs.declared.kind.Kind.TheVariants.{JobLine, LinkLine, Trailer}
+use Rattle.slip.specs.declared.kind.Stage.{Stage}
 use Rattle.slip.specs.Format.{letter_J, letter_L, letter_E}
 use Rattle.slip.specs.Fields.{fields}
 use Rattle.slip.specs.Adding.{then}
-use Rattle.slip.specs.Reading.{or_bad_fields, true_figures, kind_of}
+use Rattle.slip.specs.Reading.{has_link, has_ended, or_bad_fields, true_figures, kind_of}
 use Rattle.slip.specs.Texts.{jobs_text, trailer_fields}
 use Rattle.slip.specs.Faulty.{IllWritten}
 use Rattle.text.proofs.Spacing.{three_places}
@@ -19,19 +20,20 @@ use Rattle.slip.proofs.Spelling.{Spells, spells_fields, ill_from_none}
 abbrev pub NoKind : ℕ → Bool → Type 0
 NoKind x linked = (x ≡ letter_J → linked ≡ false → ⊥) × (x ≡ letter_L → ⊥) × (x ≡ letter_E → ⊥)
 
-pub kind_cases : (x : ℕ) (linked : Bool) (P : Option Kind → Type 0)
-    → (x ≡ letter_J → linked ≡ false → P (Some JobLine)) → (x ≡ letter_L → P (Some LinkLine)) → (x ≡ letter_E → P (Some Trailer)) → (NoKind x linked → P None)
-    → P (kind_of x linked false)
-kind_cases x linked P job link trailer none =
-    cond_both (eqb x letter_J) _ _ P
+pub kind_cases : (x : ℕ) (s : Stage) (P : Option Kind → Type 0) → has_ended s ≡ false
+    → (x ≡ letter_J → has_link s ≡ false → P (Some JobLine)) → (x ≡ letter_L → P (Some LinkLine)) → (x ≡ letter_E → P (Some Trailer)) → (NoKind x (has_link s) → P None)
+    → P (kind_of x s)
+kind_cases x s P before job link trailer none =
+    rw before
+    (cond_both (eqb x letter_J) _ _ P
     (λ j. let e : x ≡ letter_J = eqb-true x letter_J j in
-    cond_both linked None (Some JobLine) P (λ t. none (λ _ f. both_ways linked f t, λ l. absurd (omega arith), λ l. absurd (omega arith))) (λ f. job e f))
+    cond_both (has_link s) None (Some JobLine) P (λ t. none (λ _ f. both_ways (has_link s) f t, λ l. absurd (omega arith), λ l. absurd (omega arith))) (λ f. job e f))
     (λ j. cond_both (eqb x letter_L) _ _ P (λ l. link (eqb-true x letter_L l))
     (λ l. cond_both (eqb x letter_E) _ _ P (λ t. trailer (eqb-true x letter_E t))
-    (λ t. none (λ e _. eqb-false x letter_J j e, eqb-false x letter_L l, eqb-false x letter_E t))))
+    (λ t. none (λ e _. eqb-false x letter_J j e, eqb-false x letter_L l, eqb-false x letter_E t)))))
 
-pub kind_none : (x : ℕ) (linked : Bool) → NoKind x linked → kind_of x linked false ≡ None
-kind_none x linked h = kind_cases x linked (λ k. k ≡ None) (λ e f. absurd (h.0 e f)) (λ e. absurd (h.1 e)) (λ e. absurd (h.2 e)) (λ _. refl)
+pub kind_none : (x : ℕ) (s : Stage) → has_ended s ≡ false → NoKind x (has_link s) → kind_of x s ≡ None
+kind_none x s before h = kind_cases x s (λ k. k ≡ None) before (λ e f. absurd (h.0 e f)) (λ e. absurd (h.1 e)) (λ e. absurd (h.2 e)) (λ _. refl)
 
 by_fields : (k n : ℕ) (fs : List ℕ) (made : List ℕ → Result Entries Fault) (P : Result Entries Fault → Type 0) (o : Option (List ℕ)) → fields k fs ≡ o → 0 < k
     → (IllWritten k fs → P (Err (BadFields n))) → ((ns : List ℕ) → Spells k fs ns → P (made ns)) → P (then (or_bad_fields n o) made)

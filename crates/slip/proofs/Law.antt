@@ -12,7 +12,6 @@ use Rattle.slip.specs.Reading.{start, read_lines, read, left_entries}
 use Rattle.slip.specs.Texts.{SlipOf}
 use Rattle.slip.specs.Faulty.{FirstFault, Faulty}
 use Rattle.slip.specs.Laws.{ReaderLaw}
-use Rattle.slip.proofs.Results.{err_ok, err_same}
 use Rattle.slip.proofs.Walk.{ComesTo, read_lines_comes_to}
 use Rattle.slip.proofs.Telling.{read_text, tell_first_fault}
 
@@ -45,11 +44,11 @@ fault_is_read bytes f w =
 -- what was read, from the answer and what the sheet then holds
 read_from_ok : (x : Result Entries Fault) (r : Result (Unit {0}) Fault) (b : Entries) → r ≡ unless_refused x tt → b ≡ left_entries x → r ≡ Ok tt → x ≡ Ok b
 read_from_ok (Ok y) r b e f g = ap (λ (z : Entries). Ok z) (sym f)
-read_from_ok (Err y) r b e f g = err_ok y tt (sym e ∙ g)
+read_from_ok (Err y) r b e f g = cc
 
 read_from_err : (x : Result Entries Fault) (r : Result (Unit {0}) Fault) (f : Fault) → r ≡ unless_refused x tt → r ≡ Err f → x ≡ Err f
-read_from_err (Ok y) r f e g = err_ok f tt (sym (sym e ∙ g))
-read_from_err (Err y) r f e g = ap (λ (z : Fault). Err z) (err_same {A = Unit {0}} y f (sym e ∙ g))
+read_from_err (Ok y) r f e g = cc
+read_from_err (Err y) r f e g = cc
 
 pub reader_law : (bytes : List ℕ) (r : Result (Unit {0}) Fault) (after : Entries) → r ≡ unless_refused (read bytes) tt → after ≡ left_entries (read bytes) → ReaderLaw bytes r after
 reader_law bytes r after e f = record {

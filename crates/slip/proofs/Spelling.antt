@@ -6,7 +6,6 @@ use Rattle.text.specs.Bytes.{space, line_end}
 use Rattle.text.specs.Splitting.{next, split}
 use Rattle.text.specs.Numbers.{number, number_32}
 use Rattle.text.specs.Spaced.{numbers, spaced}
-use Rattle.text.proofs.Options.{none_some}
 use Rattle.text.proofs.Splits.{split_next, rejoined_split}
 use Rattle.text.proofs.Decimals.{Reads, number_reads, number_fits}
 use Rattle.text.proofs.Spacing.{numbers_same}
@@ -34,17 +33,17 @@ abbrev pub Spells : ℕ → List ℕ → List ℕ → Type 0
 Spells k fs ns = (fs ≡ spaced ns) × (length ns ≡ k) × FiveDigits ns
 
 pub spells_fields : (k : ℕ) (fs ns : List ℕ) → fields k fs ≡ Some ns → Spells k fs ns
-spells_fields k [] ns = λ q. none_some ns q
+spells_fields k [] ns = λ q. cc
 spells_fields k (b ∷ bs) ns =
     cond_both (eqb b space) (numbers (number most_digits) k (split space bs)) None (λ v. v ≡ Some ns → Spells k (b ∷ bs) ns)
     (λ e q. let c : b ≡ space = eqb-true b space e in
     let i = spells_numbers 100000 (number most_digits) reads_five_digits k (split space bs) ns q in
     (rw c (ap (λ (x : List ℕ). space ∷ x) (sym (rejoined_split space bs)) ∙ i.0), i.1, i.2))
-    (λ _ q. none_some ns q)
+    (λ _ q. cc)
 
 -- ill written is what does not read as fields
 pub ill_from_none : (k : ℕ) (fs : List ℕ) → 0 < k → fields k fs ≡ None → IllWritten k fs
-ill_from_none k fs h q ns l s e = none_some ns (sym q ∙ ap (fields k) e ∙ fields_spaced k ns l h s)
+ill_from_none k fs h q ns l s e = let r = fields_spaced k ns l h s in cc
 
 ill_by_cases : (k : ℕ) (fs : List ℕ) (o : Option (List ℕ)) → fields k fs ≡ o → IllWritten k fs → fields k fs ≡ None
 ill_by_cases k fs None q i = q

@@ -1,6 +1,5 @@
 -- How far one line takes the reader.
-use Rattle.std.proofs.Common.{◌≡◌, ℕ, ◌+◌, ◌-◌, ◌<◌, Bool, List, [], ◌∷◌, length, get_or, take, drop, is_some, Some, None, Ok, Err, Option, Result, sym, refl, ap, subst, arith}
-use Rattle.std.proofs.lemmas.List.{take_rest}
+use Rattle.std.proofs.Common.{◌≡◌, ℕ, ◌+◌, List, [], ◌∷◌, length, Some, None, Ok, Err, Option, Result, sym, refl, ap, subst, arith}
 use Rattle.sheet.specs.Entries.{Entries}
 use Rattle.slip.specs.declared.fault.Fault.{Fault}
 use Rattle.slip.specs.declared.kind.Kind.{Kind}
@@ -9,16 +8,10 @@ use Rattle.slip.specs.declared.line.Progress.{Progress}
 use Rattle.text.specs.Splitting.{Parts, next}
 use Rattle.slip.specs.Adding.{then}
 use Rattle.slip.specs.Reading.{past_job, past_link, past_trailer, place_or, read_job, read_link, read_trailer, kind_of, read_kind, read_line, read_lines}
-use Rattle.slip.proofs.Results.{ok_same, err_ok}
-
--- a line by its first byte and the others
-pub line_by_kind : (at : Progress) (b : Entries) (l : List ℕ) (linked : Bool) (k : Option Kind) → 0 < length l → linked ≡ is_some at.linked → k ≡ kind_of (get_or l 0 0) linked at.ended → read_kind at b k (take (length l - 1) (drop 1 l)) ≡ read_line at b l
-line_by_kind at b [] linked k h e f = absurd (omega arith)
-line_by_kind at b (c ∷ fs) linked k h e f = rw (f, e, take_rest (c ∷ fs) 1)
 
 then_past : (r : Result Entries Fault) (p to : Progress) (c : Entries) → then {B = Progress × Entries} r (λ b. Ok (p, b)) ≡ Ok (to, c) → (p ≡ to) × (r ≡ Ok c)
-then_past (Ok b) p to c q = let e = ok_same {A = Progress × Entries} (p, b) (to, c) q in (ap (λ (s : Progress × Entries). s.0) e, ap (λ (s : Progress × Entries). Ok s.1) e)
-then_past (Err f) p to c q = err_ok f _ q
+then_past (Ok b) p to c q = let e : ◌≡◌ {A = Progress × Entries} (p, b) (to, c) = cc in (ap (λ (s : Progress × Entries). s.0) e, ap (λ (s : Progress × Entries). Ok s.1) e)
+then_past (Err f) p to c q = cc
 
 -- past n bytes between a letter and its line's end
 abbrev Past : Progress → ℕ → Progress → Type 0
@@ -27,12 +20,12 @@ Past at n to = (to.line ≡ at.line + 1) × (to.place ≡ at.place + n + 2)
 kind_moves : (at : Progress) (b : Entries) (k : Option Kind) (fs : List ℕ) (to : Progress) (c : Entries) → read_kind at b k fs ≡ Ok (to, c) → Past at (length fs) to
 kind_moves at b (Some JobLine) fs to c q = subst (Past at (length fs)) (then_past (read_job at.line b fs) (past_job at (length fs)) to c q).0 (refl, refl)
 kind_moves at b (Some LinkLine) fs to c q = subst (Past at (length fs)) (then_past (read_link at.line b fs) (past_link at (length fs)) to c q).0 (refl, refl)
-kind_moves at b (Some Trailer) fs to c q = subst (Past at (length fs)) (then_past (read_trailer at.line b (place_or at.linked at.place) fs) (past_trailer at (length fs)) to c q).0 (refl, refl)
-kind_moves at b None fs to c q = err_ok _ _ q
+kind_moves at b (Some Trailer) fs to c q = subst (Past at (length fs)) (then_past (read_trailer at.line b (place_or at.stage at.place) fs) (past_trailer at (length fs)) to c q).0 (refl, refl)
+kind_moves at b None fs to c q = cc
 
 pub line_moves : (at : Progress) (b : Entries) (l : List ℕ) (to : Progress) (c : Entries) → Ok (to, c) ≡ read_line at b l → (to.line ≡ at.line + 1) × (to.place ≡ at.place + length l + 1)
-line_moves at b [] to c q = err_ok _ _ (sym q)
-line_moves at b (x ∷ fs) to c q = let m = kind_moves at b (kind_of x (is_some at.linked) at.ended) fs to c (sym q) in (m.0, omega arith)
+line_moves at b [] to c q = cc
+line_moves at b (x ∷ fs) to c q = let m = kind_moves at b (kind_of x at.stage) fs to c (sym q) in (m.0, omega arith)
 
 pub line_done : (at : Progress) (b : Entries) (l : List ℕ) (to : Progress) (c : Entries) (ps qs : Parts) → qs ≡ next l ps → Ok (to, c) ≡ read_line at b l → read_lines to c ps ≡ read_lines at b qs
 line_done at b l to c ps qs e q = rw (e, ← q)

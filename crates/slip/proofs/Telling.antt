@@ -1,5 +1,5 @@
 -- What the text of a slip has is what the reader tells: its jobs and links, or its first fault.
-use Rattle.std.proofs.Common.{◌≡◌, ℕ, ◌+◌, ◌<◌, ◌≤◌, Bool, true, false, cond, ◌&&◌, eqb, List, [], ◌∷◌, ◌++◌, length, is_some, Ok, Err, Option, Result, sym, refl, ap, ◌∙◌, subst, ⊎_elim, arith}
+use Rattle.std.proofs.Common.{◌≡◌, ℕ, ◌+◌, ◌<◌, ◌≤◌, Bool, true, false, cond, ◌&&◌, eqb, List, [], ◌∷◌, ◌++◌, length, Ok, Err, Option, Result, sym, refl, ap, ◌∙◌, subst, ⊎_elim, arith}
 use Rattle.std.proofs.lemmas.Bool.{ne_eqb}
 use Rattle.std.proofs.lemmas.List.{append-nil, append_assoc, length-append, nil_from_length}
 use Rattle.std.specs.List.{flat_map}
@@ -14,16 +14,16 @@ use Rattle.text.specs.Bytes.{line_end}
 use Rattle.slip.specs.Format.{longest_slip, letter_J, letter_L, letter_E}
 use Rattle.text.specs.Splitting.{split, Without}
 use Rattle.slip.specs.Adding.{then, add_job, add_link, add_all, Enterable}
-use Rattle.slip.specs.Reading.{start, past_job, past_link, past_trailer, kind_of, read_kind, read_line, read_lines}
+use Rattle.slip.specs.Reading.{start, has_ended, past_job, past_link, past_trailer, read_kind, read_line, read_lines}
 use Rattle.text.specs.Spaced.{spaced}
 use Rattle.slip.specs.Texts.{line_text, job_fields, link_fields, jobs_text, links_text, trailer_fields, text}
 use Rattle.slip.specs.Faulty.{lines_text, line_count, FiveDigits, IllWritten, HasBadLetter, HasBadFields, IsUntrue, JobIsRefused, LinkIsRefused, LineHas, RunsOut, LineAtFault, BytesLeftOver, LineAfterTrailer, FirstFault}
 use Rattle.sheet.proofs.Accepting.{enter_sound, link_sound}
-use Rattle.slip.proofs.Results.{ok_same, then_ok, unless_refused_ok}
+use Rattle.slip.proofs.Results.{then_ok, unless_refused_ok}
 use Rattle.text.proofs.Splits.{split_next, split_last}
 use Rattle.slip.proofs.Spelling.{fields_spaced, none_from_ill, split_line}
 use Rattle.slip.proofs.Entered.{last_entered, last_linked}
-use Rattle.slip.proofs.Standing.{Stands, jobs_end, unlinked_by_mark, unlinked_by_links, stands_job, stands_link}
+use Rattle.slip.proofs.Standing.{Stands, not_ended, jobs_end, unlinked_by_mark, unlinked_by_links, stands_job, stands_link}
 use Rattle.slip.proofs.Cases.{kind_none, figures_true, figures_false}
 use Rattle.slip.proofs.Walk.{lines_and_trailer, stands_at_start}
 
@@ -43,7 +43,7 @@ OneMore {X} add letter fields_of G = (at : Progress) (b : Entries) (x : X) (c : 
 all_lines : {X : Type 0} (add : Entries → X → Result Entries Refusal) (letter : ℕ) (fields_of : X → List ℕ) (G : Entries → Type 0) → (letter ≡ line_end → ⊥) → OneMore add letter fields_of G
     → (xs : List X) (at : Progress) (b c : Entries) (rest : List ℕ) → Stands at b → G b → add_all add b xs ≡ Ok c
     → (to : Progress) × Stands to c × Leads at b (flat_map (λ x. line_text letter (fields_of x)) xs) rest to c
-all_lines add letter fields_of G h one [] at b c rest i g q = let e = ok_same b c q in (at, subst (Stands at) e i, ap (λ (x : Entries). read_lines at x (split line_end rest)) e)
+all_lines add letter fields_of G h one [] at b c rest i g q = let e : b ≡ c = cc in (at, subst (Stands at) e i, ap (λ (x : Entries). read_lines at x (split line_end rest)) e)
 all_lines add letter fields_of G h one (x ∷ xs) at b c rest i g q =
     let t = then_ok (add b x) (λ d. add_all add d xs) c q in
     let o = one at b x t.0 i g t.1 in
@@ -62,12 +62,12 @@ one_job at b j c i n q =
     let d = last_entered b j g in
     let u = unlinked_by_links at b i n in
     let s : FiveDigits (job_fields j) = (omega arith, (omega arith, (omega arith, (omega arith, tt)))) in
-    let lk = u.0 in let en = i.not_ended in let f = fields_spaced 4 (job_fields j) refl (omega arith) s in (
+    let lk = u.0 in let f = fields_spaced 4 (job_fields j) refl (omega arith) s in (
       past_job at (length (spaced (job_fields j))),
       subst (Stands (past_job at (length (spaced (job_fields j))))) a.2 (stands_job at b j (spaced (job_fields j)) i u g refl),
       subst (λ (x : Entries). x.links ≡ []) a.2 n,
       s,
-      rw (lk, en, f, q),
+      rw (lk, f, q),
     )
 
 one_link : OneMore add_link letter_L link_fields (λ _. Unit {0})
@@ -77,7 +77,7 @@ one_link at b l c i n q =
     let d = last_linked b l g in
     let k = i.sound.few_jobs in
     let s : FiveDigits (link_fields l) = (omega arith, (omega arith, (omega arith, tt))) in
-    let en = i.not_ended in let f = fields_spaced 3 (link_fields l) refl (omega arith) s in (
+    let en = not_ended at b i in let f = fields_spaced 3 (link_fields l) refl (omega arith) s in (
       past_link at (length (spaced (link_fields l))),
       subst (Stands (past_link at (length (spaced (link_fields l))))) a.2 (stands_link at b l (length (spaced (link_fields l))) i g),
       tt,
@@ -95,13 +95,13 @@ to_lines b rest t =
 
 -- and the trailer, to where it has ended
 to_trailer : (b : Entries) (rest : List ℕ) → Enterable b → length (jobs_text b) < 100000
-    → (to : Progress) × (to.ended ≡ true) × (to.line ≡ line_count b + 2) × Leads start no_entries (text b) rest to b
+    → (to : Progress) × (has_ended to.stage ≡ true) × (to.line ≡ line_count b + 2) × Leads start no_entries (text b) rest to b
 to_trailer b rest t h =
     let ns = trailer_fields b in
     let r = to_lines b (line_text letter_E ns ++ rest) t in
     let i = r.1 in
     let s : FiveDigits ns = (omega arith, (omega arith, (h, tt))) in
-    let en = i.not_ended in let f = fields_spaced 3 ns refl (omega arith) s in let p = jobs_end r.0 b i in let g = figures_true b in
+    let en = not_ended r.0 b i in let f = fields_spaced 3 ns refl (omega arith) s in let p = jobs_end r.0 b i in let g = figures_true b in
     let q : read_line r.0 b (letter_E ∷ spaced ns) ≡ Ok (past_trailer r.0 (length (spaced ns)), b) = rw (en, f, p, g) in (
       past_trailer r.0 (length (spaced ns)),
       refl,
@@ -118,17 +118,16 @@ module _ (at : Progress) (b : Entries) (i : Stands at b) where
   tell_letter : (line : List ℕ) → HasBadLetter b line → Tells line (BadLetter at.line)
   tell_letter [] w = refl
   tell_letter (c ∷ fs) w =
-      let k = kind_none c (is_some at.linked) (λ e f. w.0 e (unlinked_by_mark at b i f).1, w.1, w.2) in
-      ap (λ (v : Bool). read_kind at b (kind_of c (is_some at.linked) v) fs) i.not_ended ∙ ap (λ (o : Option Kind). read_kind at b o fs) k
+      ap (λ (o : Option Kind). read_kind at b o fs) (kind_none c at.stage (not_ended at b i) (λ e f. w.0 e (unlinked_by_mark at b i f).1, w.1, w.2))
 
   tell_ill_job : (fs : List ℕ) → b.links ≡ [] → IllWritten 4 fs → Tells (letter_J ∷ fs) (BadFields at.line)
-  tell_ill_job fs n w = let lk = (unlinked_by_links at b i n).0 in let en = i.not_ended in let f = none_from_ill 4 fs w in rw (lk, en, f)
+  tell_ill_job fs n w = let lk = (unlinked_by_links at b i n).0 in let f = none_from_ill 4 fs w in rw (lk, f)
 
   tell_ill_link : (fs : List ℕ) → IllWritten 3 fs → Tells (letter_L ∷ fs) (BadFields at.line)
-  tell_ill_link fs w = let en = i.not_ended in let f = none_from_ill 3 fs w in rw (en, f)
+  tell_ill_link fs w = let en = not_ended at b i in let f = none_from_ill 3 fs w in rw (en, f)
 
   tell_ill_trailer : (fs : List ℕ) → IllWritten 3 fs → Tells (letter_E ∷ fs) (BadFields at.line)
-  tell_ill_trailer fs w = let en = i.not_ended in let f = none_from_ill 3 fs w in rw (en, f)
+  tell_ill_trailer fs w = let en = not_ended at b i in let f = none_from_ill 3 fs w in rw (en, f)
 
   tell_fields : (line : List ℕ) → HasBadFields b line → Tells line (BadFields at.line)
   tell_fields [] w = absurd w
@@ -144,17 +143,17 @@ module _ (at : Progress) (b : Entries) (i : Stands at b) where
   tell_untrue : (line : List ℕ) → IsUntrue b line → Tells line (UntrueTrailer at.line)
   tell_untrue line w =
       let ns = w.0 in
-      let en = i.not_ended in let f = fields_spaced 3 ns w.1 (omega arith) w.2 in let p = jobs_end at b i in let g = figures_false b ns w.1 w.4 in
+      let en = not_ended at b i in let f = fields_spaced 3 ns w.1 (omega arith) w.2 in let p = jobs_end at b i in let g = figures_false b ns w.1 w.4 in
       ap (read_line at b) w.3 ∙ rw (en, f, p, g)
 
   tell_refused_job : (line : List ℕ) (r : Refusal) → JobIsRefused b line r → Tells line (Refused at.line r)
   tell_refused_job line r w =
-      let lk = (unlinked_by_links at b i w.3).0 in let en = i.not_ended in let f = fields_spaced 4 (job_fields w.0) refl (omega arith) w.2 in let a = w.4 in
-      ap (read_line at b) w.1 ∙ rw (lk, en, f, a)
+      let lk = (unlinked_by_links at b i w.3).0 in let f = fields_spaced 4 (job_fields w.0) refl (omega arith) w.2 in let a = w.4 in
+      ap (read_line at b) w.1 ∙ rw (lk, f, a)
 
   tell_refused_link : (line : List ℕ) (r : Refusal) → LinkIsRefused b line r → Tells line (Refused at.line r)
   tell_refused_link line r w =
-      let en = i.not_ended in let f = fields_spaced 3 (link_fields w.0) refl (omega arith) w.2 in let a = w.3 in
+      let en = not_ended at b i in let f = fields_spaced 3 (link_fields w.0) refl (omega arith) w.2 in let a = w.3 in
       ap (read_line at b) w.1 ∙ rw (en, f, a)
 
   tell_line : (f : Fault) (line : List ℕ) → LineHas b line (line_count b + 1) f → Tells line f
@@ -173,11 +172,11 @@ next_line_tells : (front : List ℕ) (to : Progress) (b : Entries) (line rest : 
 next_line_tells front to b line rest f r w q =
     r ∙ ap (read_lines to b) (split_next line_end line rest w) ∙ ap (λ (u : Result (Progress × Entries) Fault). then u (λ s. read_lines s.0 s.1 (split line_end rest))) q
 
-left_tells : (front : List ℕ) (to : Progress) (b : Entries) (left : List ℕ) → Leads start no_entries front left to b → Without line_end left → (to.ended && eqb (length left) 0) ≡ false
+left_tells : (front : List ℕ) (to : Progress) (b : Entries) (left : List ℕ) → Leads start no_entries front left to b → Without line_end left → (has_ended to.stage && eqb (length left) 0) ≡ false
     → read_lines start no_entries (split line_end (front ++ left)) ≡ Err (Unfinished to.line)
 left_tells front to b left r w q = r ∙ ap (read_lines to b) (split_last line_end left w) ∙ ap (λ (v : Bool). cond v (Ok b) (Err (Unfinished to.line))) q
 
-tell_after_trailer : (at : Progress) (b : Entries) (line : List ℕ) → at.ended ≡ true → read_line at b line ≡ Err (BadLetter at.line)
+tell_after_trailer : (at : Progress) (b : Entries) (line : List ℕ) → has_ended at.stage ≡ true → read_line at b line ≡ Err (BadLetter at.line)
 tell_after_trailer at b [] en = refl
 tell_after_trailer at b (c ∷ fs) en = rw en
 
@@ -198,7 +197,7 @@ module _ (bytes : List ℕ) (f : Fault) (b : Entries) (t : Enterable b) where
   tell_runs_out : RunsOut bytes b f → IsTold
   tell_runs_out x =
       let r = to_lines b x.0 t in
-      let en = r.1.not_ended in
+      let en = not_ended r.0 b r.1 in
       tells_of (lines_text b ++ x.0) (Unfinished r.0.line) x.1 (ap (λ (m : ℕ). Unfinished m) r.1.line_is ∙ sym x.3) (left_tells (lines_text b) r.0 b x.0 r.2 x.2 (rw en))
 
   tell_line_at_fault : LineAtFault bytes b f → IsTold

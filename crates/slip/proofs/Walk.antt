@@ -1,5 +1,5 @@
 -- What comes of the bytes, read from the top: they are the slip of what was read, or have the fault that is told.
-use Rattle.std.proofs.Common.{◌≡◌, ℕ, ◌+◌, Bool, true, cond, eqb, List, [], ◌∷◌, ◌++◌, length, is_some, Some, Ok, Err, Option, Result, sym, refl, ap, ◌∙◌, subst, inl, inr, arith}
+use Rattle.std.proofs.Common.{◌≡◌, ℕ, ◌+◌, true, cond, eqb, List, [], ◌∷◌, ◌++◌, length, Some, Ok, Err, Option, Result, sym, refl, ap, ◌∙◌, subst, inl, inr, arith}
 use Rattle.std.proofs.lemmas.Bool.{cond_both, both_ways, eqb-false, eqb-true}
 use Rattle.std.proofs.lemmas.List.{append-nil, append_assoc, nil_from_length}
 use Rattle.sheet.specs.Entries.{Entries, no_entries, with_job, with_link}
@@ -13,7 +13,7 @@ use Rattle.text.specs.Bytes.{line_end}
 use Rattle.slip.specs.Format.{letter_J, letter_L, letter_E}
 use Rattle.text.specs.Splitting.{Parts, last, next, split, Without}
 use Rattle.slip.specs.Adding.{then, unless_refused, add_job, add_link, Enterable}
-use Rattle.slip.specs.Reading.{job_from, link_from, place_or, start, past_job, past_link, past_trailer, or_refused, true_figures, kind_of, read_kind, read_lines}
+use Rattle.slip.specs.Reading.{job_from, link_from, place_or, has_link, has_ended, start, past_job, past_link, past_trailer, or_refused, true_figures, read_kind, read_lines}
 use Rattle.text.specs.Spaced.{spaced}
 use Rattle.slip.specs.Texts.{line_text, job_fields, link_fields, jobs_text, links_text, trailer_fields, text}
 use Rattle.slip.specs.Faulty.{lines_text, line_count, FiveDigits, LineHas, FirstFault}
@@ -21,7 +21,7 @@ use Rattle.sheet.proofs.Accepting.{none_sound, enter_sound, link_sound}
 use Rattle.text.proofs.Splits.{rejoined, rejoined_split, AllWithout, split_without}
 use Rattle.text.proofs.Spacing.{three_places, four_places}
 use Rattle.slip.proofs.Entered.{enterable_job, enterable_link}
-use Rattle.slip.proofs.Standing.{Unlinked, Stands, jobs_end, unlinked_by_mark, unlinked_by_links, stands_job, stands_link, lines_text_job, lines_text_link}
+use Rattle.slip.proofs.Standing.{Unlinked, Stands, not_ended, jobs_end, unlinked_by_mark, unlinked_by_links, stands_job, stands_link, lines_text_job, lines_text_link}
 use Rattle.slip.proofs.Cases.{kind_cases, fields_cases, figures_true, figures_are}
 
 abbrev pub ComesTo : List ℕ → Result Entries Fault → Type 0
@@ -37,7 +37,7 @@ pub lines_and_trailer : (b : Entries) → lines_text b ++ line_text letter_E (tr
 lines_and_trailer b = append_assoc (jobs_text b) (links_text b) (line_text letter_E (trailer_fields b))
 
 -- after the trailer
-after_trailer : (ps : Parts) (at : Progress) (b : Entries) (bytes : List ℕ) → at.ended ≡ true → at.line ≡ line_count b + 2 → Enterable b → AllWithout line_end ps → bytes ≡ text b ++ rejoined line_end ps → ComesTo bytes (read_lines at b ps)
+after_trailer : (ps : Parts) (at : Progress) (b : Entries) (bytes : List ℕ) → has_ended at.stage ≡ true → at.line ≡ line_count b + 2 → Enterable b → AllWithout line_end ps → bytes ≡ text b ++ rejoined line_end ps → ComesTo bytes (read_lines at b ps)
 after_trailer (last left) at b bytes en l t w e =
     rw en (cond_both (eqb (length left) 0) (Ok b) (Err (Unfinished at.line)) (ComesTo bytes)
     (λ z. (e ∙ ap (λ (x : List ℕ). text b ++ x) (nil_from_length left (eqb-true (length left) 0 z)) ∙ append-nil (text b), t))
@@ -97,7 +97,7 @@ module _ (bytes : List ℕ) (ps : Parts) (at : Progress) (b : Entries) (i : Stan
 
   walk_trailer : (x : ℕ) → Line x → x ≡ letter_E → AllWithout line_end ps → Read (Some Trailer)
   walk_trailer x e f w =
-      fields_cases 3 at.line fs (λ ns. cond (true_figures b (place_or at.linked at.place) ns) (Ok b) (Err (UntrueTrailer at.line))) (GoesOn (past_trailer at (length fs))) (omega arith)
+      fields_cases 3 at.line fs (λ ns. cond (true_figures b (place_or at.stage at.place) ns) (Ok b) (Err (UntrueTrailer at.line))) (GoesOn (past_trailer at (length fs))) (omega arith)
       (λ ill. fault x _ e (i.line_is, inr (inr f, ill)))
       (λ ns s. rw (jobs_end at b i)
       (cond_both (true_figures b (length (jobs_text b)) ns) (Ok b) (Err (UntrueTrailer at.line)) (GoesOn (past_trailer at (length fs)))
@@ -108,20 +108,19 @@ module _ (bytes : List ℕ) (ps : Parts) (at : Progress) (b : Entries) (i : Stan
 
 walk : (ps : Parts) (bytes : List ℕ) → AllWithout line_end ps → Walks ps bytes
 walk (last left) bytes w at b i t e =
-    let en = i.not_ended in
+    let en = not_ended at b i in
     rw en (b, t, inl (left, e, w, ap (λ (m : ℕ). Unfinished m) i.line_is))
 walk (next [] ps) bytes w at b i t e = (b, t, inr (inl ([], rejoined line_end ps, e, tt, (i.line_is, tt))))
 walk (next (x ∷ fs) ps) bytes w at b i t e =
-    subst (λ (v : Bool). Read bytes ps at b i t fs (kind_of x (is_some at.linked) v)) (sym i.not_ended)
-    (kind_cases x (is_some at.linked) (Read bytes ps at b i t fs)
+    kind_cases x at.stage (Read bytes ps at b i t fs) (not_ended at b i)
     (λ f g. walk_job bytes ps at b i t fs x (e, w.0) f (unlinked_by_mark at b i g) (walk ps bytes w.1))
     (λ f. walk_link bytes ps at b i t fs x (e, w.0) f (walk ps bytes w.1))
     (λ f. walk_trailer bytes ps at b i t fs x (e, w.0) f w.1)
-    (λ n. fault bytes ps at b i t fs x _ (e, w.0) (i.line_is, (λ f z. n.0 f (ap (λ (o : Option ℕ). is_some o) (unlinked_by_links at b i z).0), n.1, n.2))))
+    (λ n. fault bytes ps at b i t fs x _ (e, w.0) (i.line_is, (λ f z. n.0 f (ap has_link (unlinked_by_links at b i z).0), n.1, n.2)))
 
 -- the reader starts after no lines
 pub stands_at_start : Stands start no_entries
-stands_at_start = record { line_is = refl; not_ended = refl; first_link = inl (refl, refl, refl); sound = none_sound }
+stands_at_start = record { line_is = refl; first_link = inl (refl, refl, refl); sound = none_sound }
 
 pub read_lines_comes_to : (bytes : List ℕ) → ComesTo bytes (read_lines start no_entries (split line_end bytes))
 read_lines_comes_to bytes = walk (split line_end bytes) bytes (split_without line_end bytes) start no_entries stands_at_start refl (sym (rejoined_split line_end bytes))

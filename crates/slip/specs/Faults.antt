@@ -1,7 +1,8 @@
 -- The number, the line and the inside of each fault.
-use Rattle.std.specs.Prelude.{ℕ, ◌+◌}
+use Rattle.std.specs.Prelude.{ℕ, ◌+◌, List, ◌∷◌, ◌++◌, codes, decimal}
 use Rattle.sheet.specs.Limits.{most_jobs, most_links}
 use Rattle.sheet.specs.Refusals.{refusal_number}
+use Rattle.text.specs.Bytes.{space}
 use Rattle.slip.specs.declared.fault.Fault.{Fault}
 use Rattle.slip.specs.declared.fault.Fault.TheVariants.{TooLong, Unfinished, BadLetter, BadFields, UntrueTrailer, Refused}
 
@@ -29,6 +30,10 @@ fault_inside (BadLetter n) = 0
 fault_inside (BadFields n) = 0
 fault_inside (UntrueTrailer n) = 0
 fault_inside (Refused n r) = refusal_number r
+
+-- as it is printed: its three numbers
+abbrev pub fault_text : Fault → List ℕ
+fault_text f = codes "fault " ++ (decimal (fault_number f) ++ (space ∷ (decimal (fault_line f) ++ (space ∷ decimal (fault_inside f)))))
 
 -- the furthest line that a fault can have: those of a full sheet, the trailer, and one more
 abbrev pub last_line : ℕ

@@ -1,8 +1,9 @@
 // Why a slip is not taken, with the number and the line by which it is told.
-ghost use Rattle.std.specs.Prelude.{◌≡◌};
-ghost use Rattle.slip.specs.Faults.{fault_number, fault_line, fault_inside};
+ghost use Rattle.std.specs.Prelude.{◌≡◌, Some};
+ghost use Rattle.slip.specs.Faults.{fault_number, fault_line, fault_inside, fault_text};
 
 use sheet::refusal::Refusal;
+use std::fmt;
 
 /// The faults, with the line from 1 that has them.
 #[derive(Clone, Copy, PartialEq, Eq, Debug)]
@@ -56,11 +57,18 @@ impl Fault {
     {
         match self {
             Fault::Refused(_, refusal) => refusal.number(),
-            Fault::TooLong
-            | Fault::Unfinished(_)
-            | Fault::BadLetter(_)
-            | Fault::BadFields(_)
-            | Fault::UntrueTrailer(_) => 0,
+            _ => 0,
         }
+    }
+}
+
+impl fmt::Display for Fault {
+    ghost output = { λ f. Some (fault_text f) };
+
+    fn fmt<W: fmt::Write>(&self, f: &mut fmt::Formatter<W>) -> fmt::Result {
+        let number = self.number();
+        let line = self.line();
+        let inside = self.inside();
+        write!(f, "fault {number} {line} {inside}")
     }
 }

@@ -1,4 +1,4 @@
-// The three kinds of lines, told by their letter.
+// The three kinds of lines, told by their letter, and the stages at which they may come.
 ghost use Rattle.std.specs.Prelude.{◌≡◌};
 ghost use Rattle.slip.specs.Reading.{kind_of};
 
@@ -10,14 +10,27 @@ pub(crate) enum Kind {
     Trailer,
 }
 
-/// The kind that a letter tells, after what was read before: a link, the trailer.
-pub(crate) fn line_kind(letter: u8, linked: bool, ended: bool) -> Option<Kind>
-    ensures { result ≡ kind_of letter linked ended }
+/// What the lines so far were.
+#[derive(Clone, Copy, PartialEq, Eq)]
+pub(crate) enum Stage {
+    /// Jobs alone.
+    Jobs,
+    /// A link came, the first at this byte place, and then no job.
+    Links(usize),
+    /// The trailer came.
+    Ended,
+}
+
+/// The kind that a letter tells at a stage.
+// No TryFrom: a letter tells a kind only together with the stage.
+pub(crate) fn line_kind(letter: u8, stage: Stage) -> Option<Kind>
+    ensures { result ≡ kind_of letter stage }
 {
-    match letter as char {
-        'J' if !linked && !ended => Some(Kind::JobLine),
-        'L' if !ended => Some(Kind::LinkLine),
-        'E' if !ended => Some(Kind::Trailer),
+    match (letter, stage) {
+        (_, Stage::Ended) => None,
+        (b'J', Stage::Jobs) => Some(Kind::JobLine),
+        (b'L', _) => Some(Kind::LinkLine),
+        (b'E', _) => Some(Kind::Trailer),
         _ => None,
     }
 }

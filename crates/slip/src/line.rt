@@ -3,11 +3,11 @@ ghost use Rattle.std.specs.Prelude.{◌≡◌, ◌+◌, ◌≤◌, length};
 ghost use Rattle.sheet.specs.Sheets.{entries};
 ghost use Rattle.slip.specs.Format.{longest_slip};
 ghost use Rattle.slip.specs.Adding.{unless_refused};
-ghost use Rattle.slip.specs.Reading.{with_entries, read_job, read_link, true_figures, read_trailer, read_kind, read_line};
+ghost use Rattle.slip.specs.Reading.{place_or, with_entries, read_job, read_link, true_figures, read_trailer, read_kind, read_line};
 
 use crate::fault::Fault;
-use crate::field::{four_fields, three_fields};
-use crate::kind::{Kind, line_kind};
+use crate::field::fields;
+use crate::kind::{Kind, Stage, line_kind};
 use sheet::table::Sheet;
 
 /// How far the reader has come.
@@ -17,38 +17,41 @@ pub(crate) struct Progress {
     pub(crate) line: usize,
     /// The byte place of that line, from 0.
     pub(crate) place: usize,
-    /// The byte place of the first link line, once there was one.
-    pub(crate) linked: Option<usize>,
-    /// Whether the trailer was read.
-    pub(crate) ended: bool,
+    /// What the lines before it were.
+    pub(crate) stage: Stage,
+}
+
+impl Progress {
+    /// The byte place where the job lines end: that of the first link line, or else of the next line.
+    fn jobs_end(&self) -> usize
+        ensures { result ≡ place_or self.now.stage self.now.place }
+    {
+        match self.stage {
+            Stage::Links(place) => place,
+            Stage::Jobs | Stage::Ended => self.place,
+        }
+    }
 }
 
 /// A job line, by what follows its letter.
 fn job_line(sheet: &mut Sheet, line: usize, text: &[u8]) -> Result<(), Fault>
     ensures { unless_refused result (entries sheet.new) ≡ read_job line (entries sheet.old) text.now }
 {
-    let Some(fields) = four_fields(text) else {
-        return Err(Fault::BadFields(line));
-    };
-    let [station, duration, release, due] = fields;
-    match sheet.enter(station, duration, release, due) {
-        Ok(_) => Ok(()),
-        Err(refusal) => Err(Fault::Refused(line, refusal)),
-    }
+    let [station, duration, release, due] = fields::<4>(text).ok_or(Fault::BadFields(line))?;
+    sheet
+        .enter(station, duration, release, due)
+        .map_err(|refusal| Fault::Refused(line, refusal))?;
+    Ok(())
 }
 
 /// A link line, by what follows its letter.
 fn link_line(sheet: &mut Sheet, line: usize, text: &[u8]) -> Result<(), Fault>
     ensures { unless_refused result (entries sheet.new) ≡ read_link line (entries sheet.old) text.now }
 {
-    let Some(fields) = three_fields(text) else {
-        return Err(Fault::BadFields(line));
-    };
-    let [from, to, wait] = fields;
-    match sheet.link(from, to, wait) {
-        Ok(()) => Ok(()),
-        Err(refusal) => Err(Fault::Refused(line, refusal)),
-    }
+    let [from, to, wait] = fields::<3>(text).ok_or(Fault::BadFields(line))?;
+    sheet
+        .link(from, to, wait)
+        .map_err(|refusal| Fault::Refused(line, refusal))
 }
 
 /// Whether the trailer's figures are the counts of jobs and links, and the place where the job lines end.
@@ -65,9 +68,7 @@ fn true_figures(sheet: &Sheet, place: usize, figures: [u32; 3]) -> bool
 fn trailer_line(sheet: &Sheet, line: usize, place: usize, text: &[u8]) -> Result<(), Fault>
     ensures { unless_refused result (entries sheet.now) ≡ read_trailer line (entries sheet.now) place text.now }
 {
-    let Some(figures) = three_fields(text) else {
-        return Err(Fault::BadFields(line));
-    };
+    let figures = fields::<3>(text).ok_or(Fault::BadFields(line))?;
     if true_figures(sheet, place, figures) {
         Ok(())
     } else {
@@ -89,34 +90,22 @@ fn read_kind(
 {
     let line = at.line + 1;
     let place = at.place + text.len() + 2;
-    let jobs_end = at.linked.unwrap_or(at.place);
-    match kind {
-        Some(Kind::JobLine) => {
+    let jobs_end = at.jobs_end();
+    let stage = match kind.ok_or(Fault::BadLetter(at.line))? {
+        Kind::JobLine => {
             job_line(sheet, at.line, text)?;
-            Ok(Progress { line, place, ..at })
+            at.stage
         }
-        Some(Kind::LinkLine) => {
+        Kind::LinkLine => {
             link_line(sheet, at.line, text)?;
-            let linked = Some(jobs_end);
-            Ok(Progress {
-                line,
-                place,
-                linked,
-                ..at
-            })
+            Stage::Links(jobs_end)
         }
-        Some(Kind::Trailer) => {
+        Kind::Trailer => {
             trailer_line(sheet, at.line, jobs_end, text)?;
-            let ended = true;
-            Ok(Progress {
-                line,
-                place,
-                ended,
-                ..at
-            })
+            Stage::Ended
         }
-        None => Err(Fault::BadLetter(at.line)),
-    }
+    };
+    Ok(Progress { line, place, stage })
 }
 
 /// One finished line.
@@ -126,9 +115,8 @@ pub(crate) fn read_line(sheet: &mut Sheet, at: Progress, line: &[u8]) -> Result<
     requires short { length line.now ≤ longest_slip }
     ensures { with_entries result (entries sheet.new) ≡ read_line at (entries sheet.old) line.now }
 {
-    if line.len() == 0 {
-        return Err(Fault::BadLetter(at.line));
+    match line {
+        [letter, text @ ..] => read_kind(sheet, at, line_kind(*letter, at.stage), text),
+        [] => Err(Fault::BadLetter(at.line)),
     }
-    let kind = line_kind(line[0], at.linked.is_some(), at.ended);
-    read_kind(sheet, at, kind, &line[1..])
 }

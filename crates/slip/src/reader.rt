@@ -9,6 +9,7 @@ ghost use Rattle.slip.specs.Reading.{start, read_lines, read, left_entries};
 ghost use Rattle.slip.specs.Laws.{ReaderLaw};
 
 use crate::fault::Fault;
+use crate::kind::Stage;
 use crate::line::{Progress, read_line};
 use sheet::table::Sheet;
 use text::split::split_at;
@@ -24,15 +25,14 @@ fn read_lines(sheet: &mut Sheet, bytes: &[u8]) -> Result<(), Fault>
     let mut at = Progress {
         line: 1,
         place: 0,
-        linked: None,
-        ended: false,
+        stage: Stage::Jobs,
     };
     let mut rest = bytes;
     while let Some((line, after)) = split_at(rest, b'\n') {
         at = read_line(sheet, at, line)?;
         rest = after;
     }
-    if at.ended && rest.len() == 0 {
+    if at.stage == Stage::Ended && rest.is_empty() {
         Ok(())
     } else {
         Err(Fault::Unfinished(at.line))

@@ -6,7 +6,6 @@ use Rattle.std.proofs.lemmas.Str.Parse.{IsNumeralModel, numerals_by_fold, digits
 use Rattle.std.proofs.lemmas.Fmt.{digits_decimal, digits_value-decimal, length-decimal-le, decimal_nonempty, first_decimal, decimal_digit, decimal-digits_value}
 use Rattle.text.specs.Splitting.{Without}
 use Rattle.text.specs.Numbers.{is_digit, value_after, number, in_32_bits, number_32}
-use Rattle.text.proofs.Options.{none_some, some_same}
 
 abbrev all_digits : List ℕ → Bool
 all_digits [] = true
@@ -30,7 +29,7 @@ value_after_is n (b ∷ bs) =
 only_digits : (n : ℕ) (ds : List ℕ) → value_after 0 ds ≡ Some n → (all_digits ds ≡ true) × (value 0 ds ≡ n)
 only_digits n ds q =
     cond_both (all_digits ds) (Some (value 0 ds)) None (λ v. v ≡ Some n → (all_digits ds ≡ true) × (value 0 ds ≡ n))
-    (λ e r. (e, some_same _ _ r)) (λ e r. none_some n r) (sym (value_after_is 0 ds) ∙ q)
+    (λ e r. (e, cc)) (λ e r. cc) (sym (value_after_is 0 ds) ∙ q)
 
 number_of_digits : (k : ℕ) (ds : List ℕ) → all_digits ds ≡ true → 0 < length ds → length ds ≤ k → (get_or ds 0 0 ≡ 48 → length ds ≡ 1) → number k ds ≡ Some (value 0 ds)
 number_of_digits k [] d h l z = absurd (omega arith)
@@ -59,17 +58,17 @@ abbrev pub DecimalBelow : ℕ → List ℕ → ℕ → Type 0
 DecimalBelow m f n = (f ≡ decimal n) × (n < m)
 
 decimal_from_number : (k : ℕ) (f : List ℕ) (n : ℕ) → 10 ^ k ≤ 2 ^ 64 → number k f ≡ Some n → DecimalBelow (10 ^ k) f n
-decimal_from_number k [] n s = λ q. none_some n q
+decimal_from_number k [] n s = λ q. cc
 decimal_from_number k (b ∷ bs) n s =
-    cond_both (ltb k (length (b ∷ bs))) None _ (λ v. v ≡ Some n → DecimalBelow (10 ^ k) (b ∷ bs) n) (λ _ q. none_some n q)
+    cond_both (ltb k (length (b ∷ bs))) None _ (λ v. v ≡ Some n → DecimalBelow (10 ^ k) (b ∷ bs) n) (λ _ q. cc)
     (λ l. let h : length (b ∷ bs) ≤ k = ltb-false k (length (b ∷ bs)) l in
     cond_both (eqb b 48) _ _ (λ v. v ≡ Some n → DecimalBelow (10 ^ k) (b ∷ bs) n)
     (λ z. cond_both (eqb (length bs) 0) (Some 0) None (λ v. v ≡ Some n → DecimalBelow (10 ^ k) (b ∷ bs) n)
     (λ o q. let e : bs ≡ [] = nil_from_length bs (eqb-true (length bs) 0 o) in
     let c : b ≡ 48 = eqb-true b 48 z in
-    let m : 0 ≡ n = some_same 0 n q in
+    let m : 0 ≡ n = cc in
     (rw (e, c, ← m) (sym (decimal_digit 0 (omega arith))), omega (arith, digits_value_short numerals (48 ∷ []) k refl (omega arith))))
-    (λ _ q. none_some n q))
+    (λ _ q. cc))
     (λ z q. let t = only_digits n (b ∷ bs) q in
     let u = digits_value_short numerals (b ∷ bs) k t.0 (omega arith) in
     let e = t.1 in (
@@ -91,13 +90,13 @@ number_reads k o s = record {
 }
 
 in_32_bits_some : (o : Option ℕ) (n : ℕ) → in_32_bits o ≡ Some n → (o ≡ Some n) × (n < 2 ^ 32)
-in_32_bits_some None n = λ q. none_some n q
+in_32_bits_some None n = λ q. cc
 in_32_bits_some (Some m) n =
     cond_both (ltb m (2 ^ 32)) (Some m) None (λ v. v ≡ Some n → (Some m ≡ Some n) × (n < 2 ^ 32))
     (λ e q. let l = ltb-true m (2 ^ 32) e in
-    let r = some_same m n q in
+    let r : m ≡ n = cc in
     (q, omega arith))
-    (λ _ q. none_some n q)
+    (λ _ q. cc)
 
 within_32_bits : (o : Option ℕ) → ((n : ℕ) → o ≡ Some n → n < 2 ^ 32) → in_32_bits o ≡ o
 within_32_bits None h = refl

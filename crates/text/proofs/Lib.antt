@@ -1,5 +1,4 @@
 -- Lemmas on text.
-pub mod Options
 pub mod Splits
 pub mod Digits
 pub mod Decimals

@@ -4,14 +4,13 @@ use Rattle.std.proofs.lemmas.List.{append-nil}
 use Rattle.text.specs.Bytes.{space}
 use Rattle.text.specs.Splitting.{Parts, last, next, split, Without}
 use Rattle.text.specs.Spaced.{in_front, numbers, spaced, AllBelow}
-use Rattle.text.proofs.Options.{none_some, some_same}
 use Rattle.text.proofs.Splits.{split_next, split_last, rejoined, without_append}
 use Rattle.text.proofs.Decimals.{Reads, decimal_without}
 
 in_front_some : (o : Option ℕ) (p : Option (List ℕ)) (ns : List ℕ) → in_front o p ≡ Some ns → (n : ℕ) × (ms : List ℕ) × (o ≡ Some n) × (p ≡ Some ms) × (n ∷ ms ≡ ns)
-in_front_some (Some n) (Some ms) ns q = (n, ms, refl, refl, some_same _ _ q)
-in_front_some (Some n) None ns q = none_some ns q
-in_front_some None p ns q = none_some ns q
+in_front_some (Some n) (Some ms) ns q = (n, ms, refl, refl, cc)
+in_front_some (Some n) None ns q = cc
+in_front_some None p ns q = cc
 
 -- the bytes spell these k numbers below m
 abbrev pub Spells : ℕ → ℕ → List ℕ → List ℕ → Type 0
@@ -36,12 +35,12 @@ module _ (m : ℕ) (read : List ℕ → Option ℕ) (r : Reads read m) where
       rw (a, r.from_decimal n s.0, numbers_spaced i is s.1)
 
   pub spells_numbers : (k : ℕ) (ps : Parts) (ns : List ℕ) → numbers read k ps ≡ Some ns → Spells m k (space ∷ rejoined space ps) ns
-  spells_numbers zero ps ns q = none_some ns q
+  spells_numbers zero ps ns q = cc
   spells_numbers (suc zero) (last f) ns q =
       let t = in_front_some (read f) (Some []) ns q in
       let w = r.only_decimal f t.0 t.2 in
-      subst (Spells m 1 (space ∷ f)) (ap (λ (ms : List ℕ). t.0 ∷ ms) (some_same _ _ t.3) ∙ t.4) (spells_one m f t.0 w.0 w.1)
-  spells_numbers (suc (suc k)) (last f) ns q = none_some ns q
+      subst (Spells m 1 (space ∷ f)) (let e : [] ≡ t.1 = cc in ap (λ (ms : List ℕ). t.0 ∷ ms) e ∙ t.4) (spells_one m f t.0 w.0 w.1)
+  spells_numbers (suc (suc k)) (last f) ns q = cc
   spells_numbers (suc k) (next f ps) ns q =
       let t = in_front_some (read f) (numbers read k ps) ns q in
       let w = r.only_decimal f t.0 t.2 in

@@ -1,8 +1,8 @@
 -- Splitting bytes, and joining the parts again.
-use Rattle.std.proofs.Common.{◌≡◌, ℕ, zero, suc, ◌+◌, ◌-◌, ◌<◌, ◌≤◌, true, false, eqb, List, [], ◌∷◌, ◌++◌, length, get_or, take, drop, sym, refl, ap, ◌∙◌, subst, arith}
-use native.Mathlib.Nat.{sub-zero}
-use Rattle.std.proofs.lemmas.Bool.{eq-eqb, ne_eqb, eqb-true, eqb-false, cond_both}
-use Rattle.std.proofs.lemmas.List.{take-append-drop, drop_more, take_all, take_rest, length-take-le, length-drop}
+use Rattle.std.proofs.Common.{◌≡◌, ℕ, suc, ◌+◌, Bool, true, false, cond, eqb, ltb, List, [], ◌∷◌, ◌++◌, length, get_or, take, drop, Some, None, Option, MatchBool, position, refl, ap, ◌∙◌, subst, arith, one-add, add-one}
+use Rattle.std.specs.List.{position_or_len, AllWithin, IsFirstMatchOrLen}
+use Rattle.std.proofs.lemmas.Bool.{eq-eqb, ne_eqb, eqb-true, eqb-false, ltb-true, ltb-false, lt-ltb, le-ltb, cond_both}
+use Rattle.std.proofs.lemmas.Grind.{common_steps}
 use Rattle.text.specs.Splitting.{Parts, last, next, onto_first, split, Without}
 
 pub split_next : (sep : ℕ) (xs ys : List ℕ) → Without sep xs → split sep (xs ++ (sep ∷ ys)) ≡ next xs (split sep ys)
@@ -48,32 +48,34 @@ pub without_append : (sep : ℕ) (xs ys : List ℕ) → Without sep xs → Witho
 without_append sep [] ys f g = g
 without_append sep (x ∷ xs) ys f g = (f.0, without_append sep xs ys f.1 g)
 
--- no separator in the first i bytes
-abbrev pub NoneBefore : ℕ → List ℕ → ℕ → Type 0
-NoneBefore sep l i = (k : ℕ) → k < i → get_or l k 0 ≡ sep → ⊥
+-- the parts that a cut at a place leaves
+abbrev pub cut_at : ℕ → List ℕ → Option ℕ → Parts
+cut_at sep l (Some i) = next (take i l) (split sep (drop (i + 1) l))
+cut_at sep l None = last l
 
-without_take : (sep : ℕ) (l : List ℕ) (i : ℕ) → i ≤ length l → NoneBefore sep l i → Without sep (take i l)
-without_take sep [] zero h f = tt
-without_take sep [] (suc i) h f = tt
-without_take sep (b ∷ bs) zero h f = tt
-without_take sep (b ∷ bs) (suc i) h f = (f 0 (omega arith), without_take sep bs i (omega arith) (λ k q. f (suc k) (omega arith)))
+onto_cut : (sep b n : ℕ) (bs : List ℕ) → onto_first b (cut_at sep bs (cond (ltb n (length bs)) (Some n) None)) ≡ cut_at sep (b ∷ bs) (cond (ltb (suc n) (length (b ∷ bs))) (Some (suc n)) None)
+onto_cut sep b n bs =
+    cond_both (ltb n (length bs)) (Some n) None (λ v. onto_first b (cut_at sep bs v) ≡ cut_at sep (b ∷ bs) (cond (ltb (suc n) (length (b ∷ bs))) (Some (suc n)) None))
+    (λ e. let l = ltb-true n (length bs) e in let t : ltb (suc n) (length (b ∷ bs)) ≡ true = lt-ltb _ _ (omega arith) in simp (t, add-one))
+    (λ e. let l = ltb-false n (length bs) e in let t : ltb (suc n) (length (b ∷ bs)) ≡ false = le-ltb _ _ (omega arith) in rw t)
 
-split_here : (sep : ℕ) (l : List ℕ) (i : ℕ) → i < length l → NoneBefore sep l i → get_or l i 0 ≡ sep → split sep l ≡ next (take i l) (split sep (drop (i + 1) l))
-split_here sep l i h f e =
-    let d : drop i l ≡ sep ∷ drop (i + 1) l = drop_more l i 0 h ∙ ap (λ (b : ℕ). b ∷ drop (i + 1) l) e in
-    let w : l ≡ take i l ++ (sep ∷ drop (i + 1) l) = sym (take-append-drop i l) ∙ ap (λ (t : List ℕ). take i l ++ t) d in
-    ap (split sep) w ∙ split_next sep (take i l) (drop (i + 1) l) (without_take sep l i (omega arith) f)
+-- the first cut is at the first separator
+pub first_cut : (sep : ℕ) (l : List ℕ) → split sep l ≡ cut_at sep l (position (λ b. eqb b sep) l)
+first_cut sep [] = refl
+first_cut sep (b ∷ bs) =
+    cond_both (eqb b sep) (next [] (split sep bs)) (onto_first b (split sep bs)) (λ ps. ps ≡ cut_at sep (b ∷ bs) (position (λ b. eqb b sep) (b ∷ bs)))
+    (λ e. let t : ltb 0 (length (b ∷ bs)) ≡ true = lt-ltb _ _ (omega arith) in rw (e, t))
+    (λ e. rw (e, one-add, first_cut sep bs) (onto_cut sep b (position_or_len (λ b. eqb b sep) bs) bs))
 
-pub split_none : (sep : ℕ) (l : List ℕ) (i : ℕ) → length l ≤ i → NoneBefore sep l i → split sep l ≡ last l
-split_none sep l i h f =
-    let e : take (length l) l ≡ l = take_all (length l) l (omega arith) in
-    split_last sep l (subst (Without sep) e (without_take sep l (length l) (omega arith) (λ k q. f k (omega arith))))
+without_from : (sep : ℕ) (xs : List ℕ) → AllWithin (λ b. eqb b sep ≡ false) xs 0 (length xs) → Without sep xs
+without_from sep [] f = tt
+without_from sep (b ∷ bs) f = (eqb-false b sep (f 0 0 (omega arith) (omega arith)), without_from sep bs (λ k d l h. f (suc k) d (omega arith) (omega arith)))
 
--- in two slices, before the separator and after it
-pub split_slices : (sep : ℕ) (l : List ℕ) (i : ℕ) → i < length l → NoneBefore sep l i → get_or l i 0 ≡ sep → split sep l ≡ next (take (i - 0) l) (split sep (take (length l - (i + 1)) (drop (i + 1) l)))
-split_slices sep l i h f e = rw (sub-zero i, take_rest l (i + 1)) (split_here sep l i h f e)
-
-pub slices_length : (l : List ℕ) (i : ℕ) → i < length l → length (take (i - 0) l) + length (take (length l - (i + 1)) (drop (i + 1) l)) + 1 ≡ length l
-slices_length l i h =
-    let a : length (take (i - 0) l) ≡ i - 0 = length-take-le (i - 0) l (omega arith) in
-    rw (take_rest l (i + 1), length-drop (i + 1) l, a) (omega arith)
+-- as `split` of a slice takes off one part
+pub split_part : (sep : ℕ) (xs x rest : List ℕ) (done : Bool) → MatchBool done (xs ≡ x) ((y : ℕ) × (xs ≡ x ++ (y ∷ rest))) → IsFirstMatchOrLen (λ b. eqb b sep) xs (length x)
+    → split sep xs ≡ cond done (last x) (next x (split sep rest))
+split_part sep xs x rest true e h = ap (split sep) e ∙ split_last sep x (without_from sep x (λ k d l b. subst (λ ys. eqb (get_or ys k d) sep ≡ false) e (h.0 k d l b)))
+split_part sep xs x rest false e h =
+    let front : AllWithin (λ b. eqb b sep ≡ false) x 0 (length x) = λ k d l b. let a = h.0 k d l b in let q = e.1 in grind (arith, common_steps) in
+    let hit : e.0 ≡ sep = let q = e.1 in let a = h.1 (grind (arith, common_steps)) e.0 in grind (arith, common_steps, eqb-true) in
+    ap (split sep) (e.1 ∙ ap (λ (b : ℕ). x ++ (b ∷ rest)) hit) ∙ split_next sep x rest (without_from sep x front)

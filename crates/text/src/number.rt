@@ -8,14 +8,8 @@ fn digits_value(field: &[u8]) -> Option<u32>
 {
     let mut value: u32 = 0;
     for byte in field {
-        if *byte < b'0' || *byte > b'9' {
-            return None;
-        }
-        let more = value as u64 * 10 + (*byte - b'0') as u64;
-        if more > u32::MAX as u64 {
-            return None;
-        }
-        value = more as u32;
+        let digit = char::from(*byte).to_digit(10)?;
+        value = value.checked_mul(10)?.checked_add(digit)?;
     }
     Some(value)
 }
@@ -24,11 +18,11 @@ fn digits_value(field: &[u8]) -> Option<u32>
 pub fn parse_number(field: &[u8], digits: usize) -> Option<u32>
     ensures { result ≡ number_32 digits field.now }
 {
-    if field.len() == 0 || field.len() > digits {
-        return None;
+    match field {
+        [] => None,
+        _ if field.len() > digits => None,
+        [b'0'] => Some(0),
+        [b'0', ..] => None,
+        _ => digits_value(field),
     }
-    if field[0] == b'0' {
-        return if field.len() == 1 { Some(0) } else { None };
-    }
-    digits_value(field)
 }
