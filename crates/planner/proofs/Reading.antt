@@ -1,5 +1,5 @@
 -- How the state of a search reads off its outcome, path and starts.
-use Rattle.std.proofs.Common.{◌≡◌, ℕ, zero, suc, false, List, [], ◌∷◌, length, take, None, Option, sym, refl, ap, ◌∙◌, arith}
+use Rattle.std.proofs.Common.{◌≡◌, ℕ, zero, suc, false, List, [], ◌∷◌, length, None, Option, sym, refl, ap, ◌∙◌, arith}
 use Rattle.std.proofs.lemmas.Bool.{both_ways}
 use Rattle.arrayvec.specs.ArrayVec.{ArrayVec as Starts}
 use Rattle.sheet.specs.declared.records.Window.{Window}

@@ -59,11 +59,9 @@ impl<P: Rule> Search<P> {
         ensures draft { self.new.draft ≡ self.old.draft }
     {
         let mut windows = self.windows();
-        match self
-            .draft
-            .pile
-            .propagate(&self.draft.sheet, windows.as_mut_slice())
-        {
+        let draft = &self.draft;
+        let verdict = draft.pile.propagate(&draft.sheet, windows.as_mut_slice());
+        match verdict {
             Err(Dead) => self.backtrack(),
             Ok(()) => self.branch(windows.as_slice()),
         }

@@ -56,7 +56,7 @@ impl Fault {
         ensures { result ≡ fault_inside self }
     {
         match self {
-            Fault::Refused(_, refusal) => refusal.number(),
+            Fault::Refused(_, refusal) => u32::from(refusal),
             _ => 0,
         }
     }
