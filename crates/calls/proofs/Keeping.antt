@@ -55,18 +55,12 @@ module _ (admits : Entries → List ℕ → Type 0) (cut : Entries → List Wind
   draft_call l e (Move k r d) g =
       sheet_call zero (move_answer e k r d) l e (moved e k r d) _ g.0 g.1 (ap (λ (x : Entries). moved x k r d) g.0) (λ n q. move_sound e k r d g.1 q)
   draft_call l e Close g = (g.0, record { unchanged = refl; sound = subst Sound (sym g.0) g.1; granted_looks = refl; reported_looks = refl })
-  draft_call l e (Advance n) g = g
-  draft_call l e (Start k) g = g
-  draft_call l e Reopen g = g
+  draft_call l e _ g = g
 
   draft_owes : (l : Ledger) (e : Entries) (c : Call) → Owed admits cut l c (answer_of cut (drafting e) c)
-  draft_owes l e (Enter s p r d) = tt
-  draft_owes l e (Link a b w) = tt
-  draft_owes l e (Move k r d) = tt
-  draft_owes l e Close = tt
   draft_owes l e (Advance n) = tt
   draft_owes l e (Start k) = tt
-  draft_owes l e Reopen = tt
+  draft_owes l e _ = tt
 
   module _ (l : Ledger) (x : State) (g : Stands l x) where
     -- an advance by n looks, where b tells whether that is out of range
@@ -95,13 +89,10 @@ module _ (admits : Entries → List ℕ → Type 0) (cut : Entries → List Wind
     started k false impossible e = tt
 
     search_call : (c : Call) → GoesOn l c (answer_of cut (searching l.closed x) c) (stage_after cut (searching l.closed x) c)
-    search_call (Enter s p r d) = ((refl, g), tt)
-    search_call (Link a b w) = ((refl, g), tt)
-    search_call (Move k r d) = ((refl, g), tt)
-    search_call Close = ((refl, g), tt)
     search_call (Advance n) = advanced n (eqb n 0 || ltb most_looks n)
     search_call (Start k) = ((refl, g), started k (leb (length l.closed.jobs) k) x refl)
     search_call Reopen = ((g.unchanged, g.sound), tt)
+    search_call _ = ((refl, g), tt)
 
   pub step : (l : Ledger) (s : Stage) (c : Call) → Agrees l s → GoesOn l c (answer_of cut s c) (stage_after cut s c)
   step l (drafting e) c g = (draft_call l e c g, draft_owes (noted l c (answer_of cut (drafting e) c)) e c)

@@ -19,16 +19,14 @@ fn plan_draft<P: Rule + Drop>(
     ensures owes { OwesSheet (P.Rule.admits draft.pile) (entries draft.sheet) looks room (told result) }
 {
     if looks == 0 || looks > MAX_LOOKS {
-        return Err(Unplanned::Refused(Refusal::LooksOutOfRange));
+        return Err(Refusal::LooksOutOfRange.into());
     }
     if draft.sheet().jobs().len() > room {
-        return Err(Unplanned::Refused(Refusal::BufferTooShort));
+        return Err(Refusal::BufferTooShort.into());
     }
     let mut search = draft.close();
-    match search.advance(looks) {
-        Ok((_, looks)) => Ok(Report { search, looks }),
-        Err(refusal) => Err(Unplanned::Refused(refusal)),
-    }
+    let (_, looks) = search.advance(looks)?;
+    Ok(Report { search, looks })
 }
 
 /// Plans a slip with any pile of rules, where there is room for so many starts.
@@ -42,8 +40,6 @@ pub fn plan_with<P: Rule + Drop>(
     ensures owes { Owes (P.Rule.admits pile) bytes.now looks room (told result) }
 {
     let mut draft = Draft::new(pile);
-    match draft.read(bytes) {
-        Ok(()) => plan_draft(draft, looks, room),
-        Err(fault) => Err(Unplanned::Faulty(fault)),
-    }
+    draft.read(bytes)?;
+    plan_draft(draft, looks, room)
 }

@@ -1,15 +1,34 @@
 // What comes of a slip: a report of its search, or why it was not planned.
+ghost use Rattle.std.specs.Prelude.{◌≡◌};
+ghost use Rattle.report.specs.declared.reported.Unplanned.TheVariants.{Faulty, Refused};
+
 use planner::state::Search;
 use sheet::refusal::Refusal;
 use slip::fault::Fault;
 
 /// Why a slip was not planned.
-#[derive(Clone, Copy)]
+#[derive(Clone, Copy, PartialEq, Eq, Debug)]
 pub enum Unplanned {
     /// The slip is faulty.
     Faulty(Fault),
     /// The looks granted are out of range, or there is no room for the starts.
     Refused(Refusal),
+}
+
+impl From<Fault> for Unplanned {
+    ghost from_gives = { λ f u. u ≡ Faulty f };
+
+    fn from(fault: Fault) -> Unplanned {
+        Unplanned::Faulty(fault)
+    }
+}
+
+impl From<Refusal> for Unplanned {
+    ghost from_gives = { λ r u. u ≡ Refused r };
+
+    fn from(refusal: Refusal) -> Unplanned {
+        Unplanned::Refused(refusal)
+    }
 }
 
 /// The search of a slip's sheet after its looks.
