@@ -7,7 +7,6 @@ use Rattle.text.specs.Bytes.{space}
 use Rattle.text.specs.Splitting.{Parts, last, next, split}
 use Rattle.text.specs.Numbers.{number_32}
 use Rattle.text.specs.Spaced.{numbers, spaced, AllBelow}
-use Rattle.text.proofs.Options.{none_some, some_same}
 use Rattle.text.proofs.Splits.{split_next, split_last, rejoined, rejoined_split}
 use Rattle.text.proofs.Decimals.{Reads, number_32_reads}
 use Rattle.text.proofs.Spelling.{numbers_spaced, spells_numbers}
@@ -45,17 +44,18 @@ writes_from_numbers line x ns e l s =
 bare_writes : (w : List ℕ) (x : Word) (c : Call) → w ≡ word_text x → bare x ≡ Some c → Writes w c
 bare_writes w x c e =
     cond_both (eqb (arity x) 0) (Some (call_from x [])) None (λ v. v ≡ Some c → Writes w c)
-    (λ z q. subst (Writes w) (some_same _ _ q) (writes_from_numbers w x [] (e ∙ sym (append-nil (word_text x))) (sym (eqb-true (arity x) 0 z)) tt))
-    (λ _ q. none_some c q)
+    (λ z q. let s : call_from x [] ≡ c = cc in subst (Writes w) s (writes_from_numbers w x [] (e ∙ sym (append-nil (word_text x))) (sym (eqb-true (arity x) 0 z)) tt))
+    (λ _ q. cc)
 
 numbers_write : (w : List ℕ) (x : Word) (ps : Parts) (c : Call) (o : Option (List ℕ)) → numbers (number_32 most_digits) (arity x) ps ≡ o → w ≡ word_text x → call_with x o ≡ Some c → Writes (w ++ (space ∷ rejoined space ps)) c
-numbers_write w x ps c None h e q = none_some c q
+numbers_write w x ps c None h e q = cc
 numbers_write w x ps c (Some ns) h e q =
     let i = spells_numbers (2 ^ 32) (number_32 most_digits) reads_32_bits (arity x) ps ns h in
-    subst (Writes (w ++ (space ∷ rejoined space ps))) (some_same _ _ q) (writes_from_numbers (w ++ (space ∷ rejoined space ps)) x ns (rw (e, i.0)) i.1 i.2)
+    let s : call_from x ns ≡ c = cc in
+    subst (Writes (w ++ (space ∷ rejoined space ps))) s (writes_from_numbers (w ++ (space ∷ rejoined space ps)) x ns (rw (e, i.0)) i.1 i.2)
 
 if_word_some : (bs : List ℕ) (f : Word → Option Call) (c : Call) (o : Option Word) → word_of bs ≡ o → if_word o f ≡ Some c → (x : Word) × (bs ≡ word_text x) × (f x ≡ Some c)
-if_word_some bs f c None h q = none_some c q
+if_word_some bs f c None h q = cc
 if_word_some bs f c (Some x) h q = (x, word_is bs x h, q)
 
 parts_write : (ps : Parts) (c : Call) → by_parts ps ≡ Some c → Writes (rejoined space ps) c
@@ -73,7 +73,7 @@ pub command_law : (line : List ℕ) (r : Option Call) → r ≡ command line →
 command_law line r e = record {
   only_its_text = λ c q. read_writes line c (sym e ∙ q);
   its_text = λ c w. e ∙ call_is_read line c w;
-  none_only_of_no_call = λ q c w. none_some c (sym q ∙ e ∙ call_is_read line c w);
+  none_only_of_no_call = λ q c w. let s = call_is_read line c w in cc;
   none_of_no_call = λ h. none_otherwise line r (sym e) h;
 }
 

@@ -1,13 +1,11 @@
 -- Words and their numbers, and the calls that they make.
-use Rattle.std.proofs.Common.{◌≡◌, ℕ, ◌≤◌, Bool, true, ◌&&◌, ltb, List, [], ◌∷◌, length, get_or, Some, sym, refl, arith}
+use Rattle.std.proofs.Common.{◌≡◌, ℕ, ◌≤◌, Bool, true, ◌&&◌, ltb, List, [], ◌∷◌, length, Some, sym, refl, ap, ◌∙◌, arith}
 use Rattle.std.proofs.lemmas.Slice.Eq.{bytes_eq-Decides}
-use Rattle.std.proofs.lemmas.List.{nil_from_length}
 use Rattle.std.proofs.lemmas.Bool.{cond_both, and_parts, ltb-true}
 use Rattle.std.specs.Str.{bytes_eq}
 use Rattle.text.specs.Bytes.{space}
 use Rattle.text.specs.Splitting.{Without}
-use Rattle.text.proofs.Options.{none_some, some_same}
-use Rattle.text.proofs.Spacing.{three_places, four_places}
+use Rattle.text.proofs.Spacing.{by_places}
 use Rattle.calls.specs.declared.call.Call.{Call}
 use Rattle.calls.specs.declared.call.Call.TheVariants as call
 use Rattle.commands.specs.declared.word.Word.{Word}
@@ -17,10 +15,10 @@ use Rattle.commands.specs.Commands.{call_from}
 use Rattle.commands.specs.Laws.{call_word, call_numbers}
 
 word_among_is : (xs : List Word) (bs : List ℕ) (x : Word) → word_among xs bs ≡ Some x → bs ≡ word_text x
-word_among_is [] bs x = λ q. none_some x q
+word_among_is [] bs x = λ q. cc
 word_among_is (y ∷ ys) bs x =
     cond_both (bytes_eq bs (word_text y)) (Some y) (word_among ys bs) (λ v. v ≡ Some x → bs ≡ word_text x)
-    (λ e q. let s = some_same y x q in rw (← s) ((bytes_eq-Decides bs (word_text y)).0 e))
+    (λ e q. let s : y ≡ x = cc in rw (← s) ((bytes_eq-Decides bs (word_text y)).0 e))
     (λ _ q. word_among_is ys bs x q)
 
 pub word_is : (bs : List ℕ) (x : Word) → word_of bs ≡ Some x → bs ≡ word_text x
@@ -53,6 +51,9 @@ seen Advance = record { read_back = refl; short = omega arith; above_space = ref
 seen Start = record { read_back = refl; short = omega arith; above_space = refl; few = omega arith }
 seen Reopen = record { read_back = refl; short = omega arith; above_space = refl; few = omega arith }
 
+pub read_as : (bs : List ℕ) (x : Word) → bs ≡ word_text x → Some x ≡ word_of bs
+read_as bs x e = sym (ap word_of e ∙ (seen x).read_back)
+
 pub word_without_space : (x : Word) → Without space (word_text x)
 word_without_space x = without_from_above space (word_text x) (seen x).above_space
 
@@ -75,16 +76,11 @@ word_back Advance ns = refl
 word_back Start ns = refl
 word_back Reopen ns = refl
 
-one_place : (ns : List ℕ) → length ns ≡ 1 → ns ≡ get_or ns 0 0 ∷ []
-one_place [] e = absurd (omega arith)
-one_place (n ∷ []) e = refl
-one_place (n ∷ (m ∷ ms)) e = absurd (omega arith)
-
 pub numbers_back : (x : Word) (ns : List ℕ) → length ns ≡ arity x → call_numbers (call_from x ns) ≡ ns
-numbers_back Enter ns e = sym (four_places ns e)
-numbers_back Link ns e = sym (three_places ns e)
-numbers_back Move ns e = sym (three_places ns e)
-numbers_back Close ns e = sym (nil_from_length ns e)
-numbers_back Advance ns e = sym (one_place ns e)
-numbers_back Start ns e = sym (one_place ns e)
-numbers_back Reopen ns e = sym (nil_from_length ns e)
+numbers_back Enter ns e = sym (by_places 4 ns e)
+numbers_back Link ns e = sym (by_places 3 ns e)
+numbers_back Move ns e = sym (by_places 3 ns e)
+numbers_back Close ns e = sym (by_places 0 ns e)
+numbers_back Advance ns e = sym (by_places 1 ns e)
+numbers_back Start ns e = sym (by_places 1 ns e)
+numbers_back Reopen ns e = sym (by_places 0 ns e)

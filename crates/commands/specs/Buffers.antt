@@ -1,5 +1,5 @@
 -- The line that a buffer holds, where it is not too long.
-use Rattle.std.specs.Prelude.{◌≡◌, ℕ, Bool, true, false, cond, List, [], ◌∷◌, ◌++◌, length, take, Some, None, Option, ◌==◌, ◌≢◌, nat_le}
+use Rattle.std.specs.Prelude.{◌≡◌, ℕ, Bool, true, false, cond, List, [], ◌∷◌, ◌++◌, length, Some, None, Option, option_map, ◌==◌, ◌≢◌, nat_le}
 use Rattle.text.specs.Bytes.{line_end}
 use Rattle.calls.specs.declared.call.Call.{Call}
 use Rattle.commands.specs.declared.buffer.LineBuffer.{LineBuffer}
@@ -14,7 +14,7 @@ abbrev pub kept : List ℕ → Option (List ℕ)
 kept line = cond (nat_le (length line) longest_line) (Some line) None
 
 abbrev pub held : LineBuffer → Option (List ℕ)
-held b = cond (nat_le b.count longest_line) (Some (take b.count b.bytes)) None
+held b = option_map (λ v. v.items) b.0
 
 -- with one byte more
 abbrev pub longer : Option (List ℕ) → ℕ → Option (List ℕ)

@@ -6,6 +6,7 @@ use calls::call::Answer;
 use std::fmt;
 
 /// The answer to a line's call, or that the line is ill written.
+// No Option<Answer>: it could have no Display here, as neither type is of this crate.
 #[derive(Clone, Copy, PartialEq, Eq, Debug)]
 pub enum Reply {
     Answered(Answer),

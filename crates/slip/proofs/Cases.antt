@@ -13,7 +13,7 @@ use Rattle.slip.specs.Adding.{then}
 use Rattle.slip.specs.Reading.{has_link, has_ended, or_bad_fields, true_figures, kind_of}
 use Rattle.slip.specs.Texts.{jobs_text, trailer_fields}
 use Rattle.slip.specs.Faulty.{IllWritten}
-use Rattle.text.proofs.Spacing.{three_places}
+use Rattle.text.proofs.Spacing.{by_places}
 use Rattle.slip.proofs.Spelling.{Spells, spells_fields, ill_from_none}
 
 -- a letter that begins no line
@@ -55,7 +55,7 @@ pub figures_are : (b : Entries) (ns : List ℕ) → length ns ≡ 3 → true_fig
 figures_are b ns l t =
     let x = and_parts (eqb (get_or ns 0 0) (length b.jobs)) _ t in
     let y = and_parts (eqb (get_or ns 1 0) (length b.links)) (eqb (get_or ns 2 0) (length (jobs_text b))) x.1 in
-    three_places ns l ∙ three_same _ _ _ _ _ _ (eqb-true _ _ x.0) (eqb-true _ _ y.0) (eqb-true _ _ y.1)
+    by_places 3 ns l ∙ three_same _ _ _ _ _ _ (eqb-true _ _ x.0) (eqb-true _ _ y.0) (eqb-true _ _ y.1)
 
 pub figures_false : (b : Entries) (ns : List ℕ) → length ns ≡ 3 → (ns ≡ trailer_fields b → ⊥) → true_figures b (length (jobs_text b)) ns ≡ false
 figures_false b ns l h =

@@ -19,7 +19,7 @@ use Rattle.slip.specs.Texts.{line_text, job_fields, link_fields, jobs_text, link
 use Rattle.slip.specs.Faulty.{lines_text, line_count, FiveDigits, LineHas, FirstFault}
 use Rattle.sheet.proofs.Accepting.{none_sound, enter_sound, link_sound}
 use Rattle.text.proofs.Splits.{rejoined, rejoined_split, AllWithout, split_without}
-use Rattle.text.proofs.Spacing.{three_places, four_places}
+use Rattle.text.proofs.Spacing.{by_places}
 use Rattle.slip.proofs.Entered.{enterable_job, enterable_link}
 use Rattle.slip.proofs.Standing.{Unlinked, Stands, not_ended, jobs_end, unlinked_by_mark, unlinked_by_links, stands_job, stands_link, lines_text_job, lines_text_link}
 use Rattle.slip.proofs.Cases.{kind_cases, fields_cases, figures_true, figures_are}
@@ -71,7 +71,7 @@ module _ (bytes : List ℕ) (ps : Parts) (at : Progress) (b : Entries) (i : Stan
       (λ ill. fault x _ e (i.line_is, inl (f, u.1, ill)))
       (λ ns s.
       let j = job_from ns in
-      let q : ns ≡ job_fields j = four_places ns s.1 in
+      let q : ns ≡ job_fields j = by_places 4 ns s.1 in
       let h : fs ≡ spaced (job_fields j) = s.0 ∙ ap spaced q in
       elim (enter_answer b j) as (λ v. enter_answer b j ≡ v → GoesOn (past_job at (length fs)) (or_refused at.line (unless_refused v (with_job b j)))) [
         | Ok k ↦ λ a. go (past_job at (length fs)) (with_job b j) (stands_job at b j fs i u (enter_sound b j k i.sound a) h)
@@ -86,7 +86,7 @@ module _ (bytes : List ℕ) (ps : Parts) (at : Progress) (b : Entries) (i : Stan
       (λ ill. fault x _ e (i.line_is, inr (inl f, ill)))
       (λ ns s.
       let l = link_from ns in
-      let q : ns ≡ link_fields l = three_places ns s.1 in
+      let q : ns ≡ link_fields l = by_places 3 ns s.1 in
       let h : fs ≡ spaced (link_fields l) = s.0 ∙ ap spaced q in
       elim (link_answer b l) as (λ v. link_answer b l ≡ v → GoesOn (past_link at (length fs)) (or_refused at.line (unless_refused v (with_link b l)))) [
         | Ok k ↦ λ a. go (past_link at (length fs)) (with_link b l) (stands_link at b l (length fs) i (link_sound b l i.sound a))

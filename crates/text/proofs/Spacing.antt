@@ -81,14 +81,18 @@ numbers_same read also h (suc zero) (last f) = ap (λ (o : Option ℕ). in_front
 numbers_same read also h (suc (suc n)) (last f) = refl
 numbers_same read also h (suc n) (next f ps) = rw (h f, numbers_same read also h n ps)
 
--- a list by its places
-pub three_places : (ns : List ℕ) → length ns ≡ 3 → ns ≡ get_or ns 0 0 ∷ (get_or ns 1 0 ∷ (get_or ns 2 0 ∷ []))
-three_places [] e = absurd (omega arith)
-three_places (a ∷ []) e = absurd (omega arith)
-three_places (a ∷ (b ∷ [])) e = absurd (omega arith)
-three_places (a ∷ (b ∷ (c ∷ []))) e = refl
-three_places (a ∷ (b ∷ (c ∷ (d ∷ ds)))) e = absurd (omega arith)
+-- n places of a list, from place i on
+abbrev pub places : ℕ → ℕ → List ℕ → List ℕ
+places i zero ns = []
+places i (suc n) ns = get_or ns i 0 ∷ places (suc i) n ns
 
-pub four_places : (ns : List ℕ) → length ns ≡ 4 → ns ≡ get_or ns 0 0 ∷ (get_or ns 1 0 ∷ (get_or ns 2 0 ∷ (get_or ns 3 0 ∷ [])))
-four_places [] e = absurd (omega arith)
-four_places (n ∷ ns) e = ap (λ (t : List ℕ). n ∷ t) (three_places ns (omega arith))
+places_past : (i n m : ℕ) (ns : List ℕ) → places (suc i) n (m ∷ ns) ≡ places i n ns
+places_past i zero m ns = refl
+places_past i (suc n) m ns = ap (λ (l : List ℕ). get_or ns i 0 ∷ l) (places_past (suc i) n m ns)
+
+-- a list by its places
+pub by_places : (n : ℕ) (ns : List ℕ) → length ns ≡ n → ns ≡ places 0 n ns
+by_places zero [] e = refl
+by_places zero (m ∷ ns) e = absurd (omega arith)
+by_places (suc n) [] e = absurd (omega arith)
+by_places (suc n) (m ∷ ns) e = ap (λ (l : List ℕ). m ∷ l) (by_places n ns (omega arith) ∙ sym (places_past 0 n m ns))
