@@ -27,22 +27,26 @@ below_stop f (suc n) x h e =
     (λ (y : x ≡ n → ⊥). or_right _ _ (below_stop f n x (omega arith) e))
     (cases_eq x n)
 
+-- values by job number, of all jobs at station x
+abbrev pub AtStation : (Task → List Task → ℕ) → List Job → List Window → ℕ → List ℕ → Type 0
+AtStation figure js ws x vs = (k : ℕ) → k < length ws → (job js k).station ≡ x → get_or vs k 0 ≡ figure (task js ws k) (tasks_at js ws x)
+
+-- the same as time runs back
+abbrev pub back_of : (Task → List Task → ℕ) → Task → List Task → ℕ
+back_of e i U = e (mirror i) (map mirror U)
+
 -- values by job number, of all jobs at the stations below x
 abbrev Filled : (Task → List Task → ℕ) → List Job → List Window → List ℕ → ℕ → Type 0
 Filled figure js ws vs x = (k : ℕ) → k < length ws → (job js k).station < x → get_or vs k 0 ≡ among figure js ws k
 
 filled_more : (figure : Task → List Task → ℕ) (js : List Job) (ws : List Window) (vs us : List ℕ) (x : ℕ) → Filled figure js ws vs x →
-    ((k : ℕ) → k < length ws → (job js k).station ≡ x → get_or us k 0 ≡ figure (task js ws k) (tasks_at js ws x)) →
+    AtStation figure js ws x us →
     ((k : ℕ) → ((job js k).station ≡ x → ⊥) → get_or us k 0 ≡ get_or vs k 0) → Filled figure js ws us (x + 1)
 filled_more figure js ws vs us x t a b k h l =
     ⊎_elim
     (λ (y : (job js k).station ≡ x). subst (λ (z : ℕ). get_or us k 0 ≡ figure (task js ws k) (tasks_at js ws z)) (sym y) (a k h y))
     (λ (y : (job js k).station ≡ x → ⊥). b k y ∙ t k h (omega arith))
     (cases_eq (job js k).station x)
-
--- what is gathered, as the loop's place in the store has it
-pub from_start : (m : ℕ) (ts L : List Task) → take m ts ≡ L → take (m - 0) ts ≡ L
-from_start m ts L e = let z : m - 0 ≡ m = omega arith in ap (λ (n : ℕ). take n ts) z ∙ e
 
 pub raised_as : (figure : Task → List Task → ℕ) (L V : List Task) → L ≡ V → (out : List ℕ) → AllByRecursion (λ t. get_or out t.job 0 ≡ figure t L) L → AllByRecursion (λ t. get_or out t.job 0 ≡ figure t V) V
 raised_as figure L V e out a = subst (λ (W : List Task). AllByRecursion (λ t. get_or out t.job 0 ≡ figure t W) W) e a
@@ -51,25 +55,25 @@ raised_as figure L V e out a = subst (λ (W : List Task). AllByRecursion (λ t. 
 pub record Through (o : List Task → Bool) (e : Task → List Task → ℕ) (js : List Job) (ws : List Window) (lows backs : List ℕ) (x : ℕ) : Type 0 where
   pub calm : any_below (λ x. o (tasks_at js ws x)) x ≡ false
   pub forth : Filled e js ws lows x
-  pub back : Filled (λ i U. e (mirror i) (map mirror U)) js ws backs x
+  pub back : Filled (back_of e) js ws backs x
 
 pub through_none : (o : List Task → Bool) (e : Task → List Task → ℕ) (js : List Job) (ws : List Window) (lows backs : List ℕ) → Through o e js ws lows backs 0
 through_none o e js ws lows backs = record { calm = refl; forth = λ k h l. absurd (omega arith); back = λ k h l. absurd (omega arith) }
 
 pub through_more : (o : List Task → Bool) (e : Task → List Task → ℕ) (js : List Job) (ws : List Window) (ls bs ls' bs' : List ℕ) (x : ℕ) → Through o e js ws ls bs x → o (tasks_at js ws x) ≡ false →
-    ((k : ℕ) → k < length ws → (job js k).station ≡ x → get_or ls' k 0 ≡ e (task js ws k) (tasks_at js ws x)) →
+    AtStation e js ws x ls' →
     ((k : ℕ) → ((job js k).station ≡ x → ⊥) → get_or ls' k 0 ≡ get_or ls k 0) →
-    ((k : ℕ) → k < length ws → (job js k).station ≡ x → get_or bs' k 0 ≡ e (mirror (task js ws k)) (map mirror (tasks_at js ws x))) →
+    AtStation (back_of e) js ws x bs' →
     ((k : ℕ) → ((job js k).station ≡ x → ⊥) → get_or bs' k 0 ≡ get_or bs k 0) → Through o e js ws ls' bs' (x + 1)
 through_more o e js ws ls bs ls' bs' x t c a b d f = record {
   calm = rw add-one (or_from _ _ c t.calm);
   forth = filled_more e js ws ls ls' x t.forth a b;
-  back = filled_more (λ i U. e (mirror i) (map mirror U)) js ws bs bs' x t.back d f;
+  back = filled_more (back_of e) js ws bs bs' x t.back d f;
 }
 
 -- the limits out of the first starts as time runs back
 pub limit_is : (o : List Task → Bool) (e l : Task → List Task → ℕ) → KernelLawful o e l → (js : List Job) (ws : List Window) → AllEntered js → length js ≤ most_jobs → WellFormed (length js) ws → (k : ℕ) → k < length ws →
-    among l js ws k ≡ horizon + 1 - (among (λ i U. e (mirror i) (map mirror U)) js ws k + span js k)
+    among l js ws k ≡ horizon + 1 - (among (back_of e) js ws k + span js k)
 limit_is o e l law js ws entered few f k h =
     let x = (job js k).station in
     all_in (λ i. l i (tasks_at js ws x) ≡ horizon + 1 - (e (mirror i) (map mirror (tasks_at js ws x)) + i.span)) (task_in js ws entered few f x k h refl)

@@ -62,36 +62,6 @@ module _ (js : List Job) (ws : List Window) (x : ℕ) where
       let r : length (gathered js ws x n) ≤ n = gathered_short n in
       cond_both ((job js n).station == x) (gathered js ws x n ++ (task js ws n ∷ [])) (gathered js ws x n) (λ L. length L ≤ suc n) (λ b. omega (arith, length_push (gathered js ws x n) (task js ws n))) (λ b. omega arith)
 
--- how far the loop of `gather` has come
-pub record Gathering (js : List Job) (ws : List Window) (x : ℕ) (ts : List Task) (k m : ℕ) : Type 0 where
-  pub room : length ts ≡ most_tasks
-  pub count : m ≡ length (gathered js ws x k)
-  pub taken : take m ts ≡ gathered js ws x k
-
-pub gathering_none : (js : List Job) (ws : List Window) (x : ℕ) (ts : List Task) → length ts ≡ most_tasks → Gathering js ws x ts 0 0
-gathering_none js ws x ts h = record { room = h; count = refl; taken = refl }
-
-module _ (js : List Job) (ws : List Window) (x : ℕ) (ts : List Task) (k m : ℕ) (g : Gathering js ws x ts k m) where
-  pub gathering_fits : k < most_tasks → m < length ts
-  gathering_fits h = omega (arith, g.count, g.room, gathered_short js ws x k)
-
-  pub gathering_yes : (job js k).station ≡ x → k < most_tasks → Gathering js ws x (slice_set ts m (task js ws k)) (k + 1) (m + 1)
-  gathering_yes e h =
-      let y : gathered js ws x (suc k) ≡ gathered js ws x k ++ (task js ws k ∷ []) = gathered_yes js ws x k e in
-      rw (add-one k) (record {
-        room = length-set ts m (task js ws k) ∙ g.room;
-        count = omega (arith, g.count, length_push (gathered js ws x k) (task js ws k), ap length y);
-        taken = take_more_set ts m (task js ws k) (gathering_fits h) ∙ ap (λ (L : List Task). L ++ (task js ws k ∷ [])) g.taken ∙ sym y;
-      })
-
-  pub gathering_no : ((job js k).station ≢ x) → Gathering js ws x ts (k + 1) m
-  gathering_no e =
-      let y : gathered js ws x (suc k) ≡ gathered js ws x k = gathered_no js ws x k e in
-      rw (add-one k) (record { room = g.room; count = g.count ∙ ap length (sym y); taken = g.taken ∙ sym y })
-
-pub gathering_as : (js : List Job) (ws : List Window) (x : ℕ) (ts us : List Task) (k m n : ℕ) → Gathering js ws x ts k m → us ≡ ts → n ≡ m → Gathering js ws x us k n
-gathering_as js ws x ts us k m n g e f = rw (e, f) g
-
 -- tasks of windows that are well formed
 module _ (js : List Job) (ws : List Window) (entered : AllEntered js) (few : length js ≤ most_jobs) (f : WellFormed (length js) ws) (x : ℕ) where
   pub tasks_formed : Formed (tasks_at js ws x)
@@ -103,7 +73,7 @@ module _ (js : List Job) (ws : List Window) (entered : AllEntered js) (few : len
     distinct = gathered_pairwise js ws x (λ s t. s.job ≢ t.job) (length ws) (λ j k l h d e z. omega arith);
   }
 
-  pub tasks_numbered : (n : ℕ) → n ≡ length ws → AllByRecursion (λ t. t.job < n) (tasks_at js ws x)
+  pub tasks_numbered : (n : ℕ) → length ws ≤ n → AllByRecursion (λ t. t.job < n) (tasks_at js ws x)
   tasks_numbered n z = gathered_all js ws x (λ t. t.job < n) (length ws) (λ k h e. omega arith)
 
   -- a job that is not at the station has no task there

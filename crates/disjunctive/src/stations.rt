@@ -1,95 +1,54 @@
 // A kernel, run over the stations of a sheet in both directions of time.
-ghost use Rattle.std.specs.Prelude.{◌≡◌, ℕ, ◌<◌, ◌≤◌, true, false, map, length, slice_index};
+ghost use Rattle.std.specs.Prelude.{◌≡◌, ℕ, ◌<◌, true, map, length, slice_index, is_err, OnOk, IfOk};
 ghost use Rattle.sheet.specs.Entries.{job};
 ghost use Rattle.sheet.specs.Sheets.{entries};
-ghost use Rattle.sheet.specs.Sound.{AllEntered};
 ghost use Rattle.rule.specs.Windows.{formed};
 ghost use Rattle.rule.specs.Cuts.{verdict_of, left};
 ghost use Rattle.station.specs.Mirror.{mirror};
 ghost use Rattle.disjunctive.specs.Gathering.{task, tasks_at};
 ghost use Rattle.disjunctive.specs.StationCuts.{any_below, stations, among, station_cut};
 
-use crate::gathering::gather;
-use crate::setting::set_together;
+use crate::board::Board;
+use crate::starts::Starts;
 use rule::verdict::Verdict;
 use sheet::limits::{LAST_STATION, MAX_JOBS};
-use sheet::records::{Job, Window};
+use sheet::records::Window;
 use sheet::table::Sheet;
-use station::kernel::{Kernel, raise_by_job};
-use station::limits::MOST_TASKS;
+use station::kernel::{Kernel, Overload, raise_by_job};
 use station::mirror::reverse_time;
-use station::task::BLANK_TASK;
 
-/// The new first starts of the jobs at a station, and those as time runs back; whether the station is overloaded.
-fn raise_station<K: Kernel>(
-    jobs: &[Job],
-    windows: &[Window],
-    station: u32,
-    lows: &mut [u32],
-    backs: &mut [u32],
-) -> bool
-    requires entered { AllEntered jobs.now }
-    requires formed { formed (length jobs.now) windows.now ≡ true }
-    requires few { length jobs.now ≤ 48 }
-    requires lows { length lows.old ≡ length windows.now }
-    requires backs { length backs.old ≡ length windows.now }
-    ensures load { result ≡ K.Kernel.overloaded (tasks_at jobs.now windows.now station) }
-    ensures lows { result ≡ false → (k : ℕ) → k < length windows.now → (job jobs.now k).station ≡ station → slice_index lows.new k ≡ K.Kernel.earliest (task jobs.now windows.now k) (tasks_at jobs.now windows.now station) }
-    ensures other_lows { (k : ℕ) → ((job jobs.now k).station ≡ station → ⊥) → slice_index lows.new k ≡ slice_index lows.old k }
-    ensures backs { result ≡ false → (k : ℕ) → k < length windows.now → (job jobs.now k).station ≡ station → slice_index backs.new k ≡ K.Kernel.earliest (mirror (task jobs.now windows.now k)) (map mirror (tasks_at jobs.now windows.now station)) }
-    ensures other_backs { (k : ℕ) → ((job jobs.now k).station ≡ station → ⊥) → slice_index backs.new k ≡ slice_index backs.old k }
-{
-    let mut store = [BLANK_TASK; MOST_TASKS];
-    let count = gather(jobs, windows, station, &mut store);
-    let mut copy = store;
-    if raise_by_job::<K>(&mut store[0..count], lows) {
-        return true;
+impl<'a> Board<'a> {
+    // The new first starts of the jobs at a station, and those as time runs back.
+    fn raise_station<K: Kernel>(&self, station: u32, starts: &mut Starts) -> Result<(), Overload>
+        ensures load { is_err result ≡ K.Kernel.overloaded (tasks_at self.now.jobs.now self.now.windows.now station) }
+        ensures lows { OnOk result ((k : ℕ) → k < length self.now.windows.now → (job self.now.jobs.now k).station ≡ station → slice_index starts.new.lows k ≡ K.Kernel.earliest (task self.now.jobs.now self.now.windows.now k) (tasks_at self.now.jobs.now self.now.windows.now station)) }
+        ensures other_lows { (k : ℕ) → ((job self.now.jobs.now k).station ≡ station → ⊥) → slice_index starts.new.lows k ≡ slice_index starts.old.lows k }
+        ensures backs { OnOk result ((k : ℕ) → k < length self.now.windows.now → (job self.now.jobs.now k).station ≡ station → slice_index starts.new.backs k ≡ K.Kernel.earliest (mirror (task self.now.jobs.now self.now.windows.now k)) (map mirror (tasks_at self.now.jobs.now self.now.windows.now station))) }
+        ensures other_backs { (k : ℕ) → ((job self.now.jobs.now k).station ≡ station → ⊥) → slice_index starts.new.backs k ≡ slice_index starts.old.backs k }
+    {
+        let mut tasks = self.tasks_at(station);
+        raise_by_job::<K>(&mut tasks, &mut starts.lows)?;
+        let mut again = self.tasks_at(station);
+        let mirrored = again.as_mut_slice();
+        reverse_time(mirrored);
+        raise_by_job::<K>(mirrored, &mut starts.backs)
     }
-    let mirrored = &mut copy[0..count];
-    reverse_time(mirrored);
-    raise_by_job::<K>(mirrored, backs)
-}
 
-/// The same of all stations.
-fn raise_all<K: Kernel>(
-    jobs: &[Job],
-    windows: &[Window],
-    lows: &mut [u32],
-    backs: &mut [u32],
-) -> bool
-    requires entered { AllEntered jobs.now }
-    requires formed { formed (length jobs.now) windows.now ≡ true }
-    requires few { length jobs.now ≤ 48 }
-    requires lows { length lows.old ≡ length windows.now }
-    requires backs { length backs.old ≡ length windows.now }
-    ensures load { result ≡ any_below (λ x. K.Kernel.overloaded (tasks_at jobs.now windows.now x)) stations }
-    ensures lows { result ≡ false → (k : ℕ) → k < length windows.now → slice_index lows.new k ≡ among K.Kernel.earliest jobs.now windows.now k }
-    ensures backs { result ≡ false → (k : ℕ) → k < length windows.now → slice_index backs.new k ≡ among (λ i U. K.Kernel.earliest (mirror i) (map mirror U)) jobs.now windows.now k }
-{
-    for station in 0..LAST_STATION + 1 {
-        if raise_station::<K>(jobs, windows, station, lows, backs) {
-            return true;
+    // The same of all stations.
+    fn raise_all<K: Kernel>(&self) -> Result<Starts, Overload>
+        ensures load { is_err result ≡ any_below (λ x. K.Kernel.overloaded (tasks_at self.now.jobs.now self.now.windows.now x)) stations }
+        ensures lows { IfOk result (λ starts. (k : ℕ) → k < length self.now.windows.now → slice_index starts.lows k ≡ among K.Kernel.earliest self.now.jobs.now self.now.windows.now k) }
+        ensures backs { IfOk result (λ starts. (k : ℕ) → k < length self.now.windows.now → slice_index starts.backs k ≡ among (λ i U. K.Kernel.earliest (mirror i) (map mirror U)) self.now.jobs.now self.now.windows.now k) }
+    {
+        let mut starts = Starts {
+            lows: [0; MAX_JOBS],
+            backs: [0; MAX_JOBS],
+        };
+        for station in 0..LAST_STATION + 1 {
+            self.raise_station::<K>(station, &mut starts)?;
         }
+        Ok(starts)
     }
-    false
-}
-
-/// Narrows the windows of the jobs by a kernel, or leaves them where it is dead.
-fn narrow_jobs<K: Kernel>(jobs: &[Job], windows: &mut [Window]) -> Verdict
-    requires entered { AllEntered jobs.now }
-    requires formed { formed (length jobs.now) windows.old ≡ true }
-    requires few { length jobs.now ≤ 48 }
-    ensures answer { result ≡ verdict_of (station_cut K.Kernel.overloaded K.Kernel.earliest K.Kernel.limit jobs.now windows.old) }
-    ensures after { windows.new ≡ left (station_cut K.Kernel.overloaded K.Kernel.earliest K.Kernel.limit jobs.now windows.old) windows.old }
-{
-    let mut low_store: [u32; MAX_JOBS] = [0; MAX_JOBS];
-    let mut back_store: [u32; MAX_JOBS] = [0; MAX_JOBS];
-    let lows = &mut low_store[0..windows.len()];
-    let backs = &mut back_store[0..windows.len()];
-    if raise_all::<K>(jobs, windows, lows, backs) {
-        return Verdict::Dead;
-    }
-    set_together(jobs, windows, lows, backs)
 }
 
 /// Narrows the windows of a sheet's jobs by a kernel, or leaves them where it is dead.
@@ -98,5 +57,13 @@ pub fn propagate<K: Kernel>(sheet: &Sheet, windows: &mut [Window]) -> Verdict
     ensures answer { result ≡ verdict_of (station_cut K.Kernel.overloaded K.Kernel.earliest K.Kernel.limit (entries sheet.now).jobs windows.old) }
     ensures after { windows.new ≡ left (station_cut K.Kernel.overloaded K.Kernel.earliest K.Kernel.limit (entries sheet.now).jobs windows.old) windows.old }
 {
-    narrow_jobs::<K>(sheet.jobs(), windows)
+    let jobs = sheet.jobs();
+    let board = Board {
+        jobs,
+        windows: &*windows,
+    };
+    match board.raise_all::<K>() {
+        Ok(starts) => starts.set_together(jobs, windows),
+        Err(_) => Verdict::Dead,
+    }
 }

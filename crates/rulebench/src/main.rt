@@ -2,12 +2,9 @@
 #![tactic(auto)]
 
 use anyhow::{Context, anyhow};
-use disjunctive::edges::Edges;
-use disjunctive::not_first::NotFirst;
-use disjunctive::pairs::Pairs;
+use disjunctive::rules::{EDGES, NOT_FIRST, PAIRS};
 use rule::narrowing::Rule;
 use rule::verdict::Verdict;
-use rule::windows::BLANK_WINDOW;
 use sheet::limits::MAX_JOBS;
 use sheet::records::Window;
 use sheet::table::Sheet;
@@ -27,7 +24,7 @@ fn fill(sheet: &mut Sheet, jobs: u32) {
 fn call<R: Rule>(rule: &R, sheet: &Sheet, calls: u32) -> u32 {
     let mut alive: u32 = 0;
     for _ in 0..calls {
-        let mut store = [BLANK_WINDOW; MAX_JOBS];
+        let mut store = [Window { lo: 0, hi: 0 }; MAX_JOBS];
         let jobs = sheet.jobs();
         for (place, job) in store.iter_mut().zip(jobs) {
             *place = Window {
@@ -53,9 +50,9 @@ fn main(rt: HostRuntime) -> anyhow::Result<()> {
     fill(&mut sheet, jobs.parse::<u32>()?);
     let times = calls.parse::<u32>()?;
     let alive = match rule.as_str() {
-        "pairs" => call(&Pairs, &sheet, times),
-        "edges" => call(&Edges, &sheet, times),
-        "not-first" => call(&NotFirst, &sheet, times),
+        "pairs" => call(&PAIRS, &sheet, times),
+        "edges" => call(&EDGES, &sheet, times),
+        "not-first" => call(&NOT_FIRST, &sheet, times),
         _ => return Err(anyhow!("the rule is pairs, edges or not-first")),
     };
     println!(rt; "{alive}")?;

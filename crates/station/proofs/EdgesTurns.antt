@@ -1,5 +1,5 @@
 -- The two passes of edge finding, turn by turn.
-use Rattle.std.proofs.Common.{◌≡◌, ℕ, suc, ◌+◌, ◌-◌, ◌<◌, ◌≤◌, max, cond, ltb, List, length, get_or, drop, set, sym, refl, ap, ◌∙◌, add-one, arith, drop-cons}
+use Rattle.std.proofs.Common.{◌≡◌, ℕ, suc, ◌+◌, ◌<◌, ◌≤◌, max, cond, ltb, List, length, get_or, drop, set, sym, ap, ◌∙◌, arith, drop-cons}
 use Rattle.std.proofs.lemmas.Bool.{cond-true, cond-false, le-leb, lt-leb, lt-ltb, le-ltb}
 use Rattle.station.specs.declared.task.Task.{Task}
 use Rattle.station.specs.EdgesPasses.{completion_before, completion_by, ends_by, raised_by_earlier, raised_by_later, work_of}
@@ -8,7 +8,7 @@ use Rattle.station.specs.Tasks.{Formed, at, no_task}
 use Rattle.station.proofs.EdgesFigures.{before_le, completion_no, completion_yes}
 use Rattle.station.specs.Members.{fit_at}
 use Rattle.station.proofs.Passes.{Pass, inside, pass_same, pass_set, same_figure, same_work}
-use Rattle.station.proofs.Rewriting.{UpTo, up_none, up_same, up_set}
+use Rattle.station.proofs.Rewriting.{UpTo}
 use Rattle.station.specs.Works.{span_no, span_yes, work_here, work_most}
 
 -- one place further down
@@ -67,40 +67,6 @@ pub record Earlier (b : ℕ) (U : List Task) (xs ys : List ℕ) (k r p : ℕ) : 
   pub rest : r ≡ work_of (ends_by b) (drop k U)
   pub peak : p ≡ completion_before b U k
   pub lows : UpTo 0 (raised_by_earlier b U) xs ys k
-
-pub earlier_none : (b : ℕ) (U : List Task) (xs : List ℕ) (w : ℕ) → w ≡ work_of (ends_by b) U → Earlier b U xs xs 0 w 0
-earlier_none b U xs w e = record { rest = e; peak = refl; lows = up_none 0 (raised_by_earlier b U) xs }
-
-module _ (b : ℕ) (U : List Task) (xs ys : List ℕ) (k r p : ℕ) (d : Earlier b U xs ys k r p) (h : k < length U) where
-  pub earlier_held : (at U k).end ≤ b → (x : ℕ) → x ≡ max p ((at U k).lo + r) → Earlier b U xs ys (k + 1) (r - (at U k).span) x
-  earlier_held e x xp = record {
-    rest = rw add-one (omega (arith, d.rest, work_held b U k h e));
-    peak = rw add-one (omega (arith, d.rest, d.peak, cond-true (ends_by b (at U k)) (max (completion_before b U k) ((at U k).lo + work_of (ends_by b) (drop k U))) (completion_before b U k) (le-leb _ _ e)));
-    lows = up_same 0 (raised_by_earlier b U) xs ys k d.lows (sym (cond-true (ends_by b (at U k)) _ _ (le-leb _ _ e)));
-  }
-
-  free_up : b < (at U k).end → (zs : List ℕ) → UpTo 0 (raised_by_earlier b U) xs zs (k + 1) → Earlier b U xs zs (k + 1) r p
-  free_up e zs lows = record {
-    rest = rw add-one (d.rest ∙ work_free b U k h e);
-    peak = rw add-one (d.peak ∙ sym (cond-false (ends_by b (at U k)) _ _ (lt-leb _ _ e)));
-    lows = lows;
-  }
-
-  raised_up : b < (at U k).end → (x : ℕ) → raised_by_earlier b U k x ≡ max x (cond (ltb b (completion_before b U k + (at U k).span)) (completion_by b U) 0)
-  raised_up e x = cond-false (ends_by b (at U k)) _ _ (lt-leb _ _ e)
-
-  pub earlier_raise : b < (at U k).end → b < p + (at U k).span → (t : ℕ) → t ≡ completion_by b U → k < length ys → (x : ℕ) → x ≡ max (get_or ys k 0) t → Earlier b U xs (set ys k x) (k + 1) r p
-  earlier_raise e c t tb l x xt =
-      let z : cond (ltb b (completion_before b U k + (at U k).span)) (completion_by b U) 0 ≡ completion_by b U = cond-true (ltb b (completion_before b U k + (at U k).span)) _ _ (lt-ltb _ _ (omega (arith, d.peak))) in
-      free_up e _ (up_set 0 (raised_by_earlier b U) xs ys k d.lows x l (omega (arith, raised_up e (get_or ys k 0))))
-
-  pub earlier_pass : b < (at U k).end → p + (at U k).span ≤ b → Earlier b U xs ys (k + 1) r p
-  earlier_pass e c =
-      let z : cond (ltb b (completion_before b U k + (at U k).span)) (completion_by b U) 0 ≡ 0 = cond-false (ltb b (completion_before b U k + (at U k).span)) _ _ (le-ltb _ _ (omega (arith, d.peak))) in
-      free_up e ys (up_same 0 (raised_by_earlier b U) xs ys k d.lows (omega (arith, raised_up e (get_or ys k 0))))
-
-pub earlier_as : (b : ℕ) (U : List Task) (xs ys zs : List ℕ) (k r s p o : ℕ) → Earlier b U xs ys k r p → zs ≡ ys → s ≡ r → o ≡ p → Earlier b U xs zs k s o
-earlier_as b U xs ys zs k r s p o u e f g = rw (e, f, g) u
 
 -- no sum here passes the horizon and the most work together
 pub before_most : (b : ℕ) (U : List Task) (k : ℕ) → Formed U → k ≤ length U → completion_before b U k ≤ horizon + most_work

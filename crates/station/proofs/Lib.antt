@@ -1,5 +1,4 @@
 -- The lemmas of this crate.
-pub mod Insertion
 pub mod Shuffles
 pub mod Intervals
 pub mod EdgesFigures

@@ -1,14 +1,13 @@
 -- The two passes of not-first, turn by turn.
 use Rattle.std.proofs.Common.{◌≡◌, ℕ, suc, ◌+◌, ◌-◌, ◌<◌, ◌≤◌, min, max, ltb, List, length, get_or, drop, set, sym, ap, ◌∙◌, arith, drop-cons}
-use Rattle.std.proofs.lemmas.Bool.{cond-true, cond-false, cond_both, and_from, and_left, and_right, le-leb, lt-leb, lt-ltb, le-ltb}
+use Rattle.std.proofs.lemmas.Bool.{cond-true, cond-false, and_from, and_left, and_right, le-leb, lt-leb, lt-ltb, le-ltb}
 use Rattle.station.specs.declared.task.Task.{Task}
 use Rattle.station.specs.EdgesPasses.{work_of}
-use Rattle.station.specs.Limits.{horizon, most_work}
-use Rattle.station.specs.NotFirstPasses.{complete_from, front, raised_by_any, raised_by_sooner, slack}
-use Rattle.station.specs.Tasks.{Fit, at, ect, no_task}
-use Rattle.station.proofs.NotFirstExact.{by_any, by_sooner, slack_no, slack_yes}
+use Rattle.station.specs.Limits.{most_work}
+use Rattle.station.specs.NotFirstPasses.{complete_from, raised_by_sooner, slack}
+use Rattle.station.specs.Tasks.{at, ect, no_task}
+use Rattle.station.proofs.NotFirstExact.{by_sooner, slack_no, slack_yes}
 use Rattle.station.proofs.Passes.{Pass, inside, pass_same, pass_set, same_figure, same_work}
-use Rattle.station.proofs.Rewriting.{UpTo, up_same, up_set}
 use Rattle.station.specs.Works.{span_no, span_yes, work_here}
 
 -- one place further down
@@ -60,17 +59,3 @@ module _ (e : ℕ) (U : List Task) (xs ys : List ℕ) (k w g j : ℕ) (d : Soone
     sooner_keep c =
         pass_same _ _ _ U xs ys k w g j d s (w + (at U j).span) r more_work new_slack
         (sym (cond-false (by_sooner e U j) _ _ (and_right (complete_from e (at U j)) (ltb (slack e (drop (suc j) U)) (ect (at U j) + most_work)) (le-ltb _ _ (omega (arith, behind_slack))))))
-
--- the second pass
-module _ (e : ℕ) (U : List Task) (xs ys : List ℕ) (k : ℕ) (d : UpTo 0 (raised_by_any e U) xs ys k) (f : ℕ) (fi : f ≡ front e (at U k)) (g : ℕ) (ge : g ≡ slack e U) where
-  pub any_raise : g < f + most_work → k < length ys → (x : ℕ) → x ≡ max (get_or ys k 0) e → UpTo 0 (raised_by_any e U) xs (set ys k x) (k + 1)
-  any_raise c l x xt = up_set 0 (raised_by_any e U) xs ys k d x l (xt ∙ sym (cond-true (by_any e U k) _ _ (lt-ltb _ _ (omega arith))))
-
-  pub any_keep : f + most_work ≤ g → UpTo 0 (raised_by_any e U) xs ys (k + 1)
-  any_keep c = up_same 0 (raised_by_any e U) xs ys k d (sym (cond-false (by_any e U k) _ _ (le-ltb _ _ (omega arith))))
-
-pub any_as : (e : ℕ) (U : List Task) (xs ys zs : List ℕ) (k : ℕ) → UpTo 0 (raised_by_any e U) xs ys k → zs ≡ ys → UpTo 0 (raised_by_any e U) xs zs k
-any_as e U xs ys zs k u a = rw a u
-
-pub front_most : (e : ℕ) (t : Task) → Fit t → front e t ≤ horizon
-front_most e t f = cond_both (complete_from e t) t.lo (ect t) (λ x. x ≤ horizon) (λ h. omega (arith, f.room, f.ends)) (λ h. omega (arith, f.room, f.ends))

@@ -1,9 +1,8 @@
 -- A pass over tasks from the last down, which keeps two figures of the tasks behind it and rewrites a bound for each.
-use Rattle.std.proofs.Common.{◌≡◌, ℕ, suc, ◌<◌, ◌≤◌, List, [], length, get_or, drop, set, sym, ap, ◌∙◌, arith}
-use Rattle.std.proofs.lemmas.List.{drop_all}
+use Rattle.std.proofs.Common.{◌≡◌, ℕ, suc, ◌<◌, ◌≤◌, List, length, get_or, drop, set, ap, ◌∙◌, arith}
 use Rattle.station.specs.declared.task.Task.{Task}
 use Rattle.station.specs.Sets.{work}
-use Rattle.station.proofs.Rewriting.{DownTo, down_none, down_same, down_set}
+use Rattle.station.proofs.Rewriting.{DownTo, down_same, down_set}
 
 pub record Pass (work figure : List Task → ℕ) (raised : ℕ → ℕ → ℕ) (U : List Task) (xs ys : List ℕ) (k w t : ℕ) : Type 0 where
   pub within : k ≤ length U
@@ -12,14 +11,6 @@ pub record Pass (work figure : List Task → ℕ) (raised : ℕ → ℕ → ℕ)
   pub lows : DownTo 0 raised xs (length U) ys k
 
 module _ (work figure : List Task → ℕ) (raised : ℕ → ℕ → ℕ) (U : List Task) (xs : List ℕ) where
-  pub pass_none : (w t : ℕ) → w ≡ work [] → t ≡ figure [] → Pass work figure raised U xs xs (length U) w t
-  pass_none w t p q = record {
-    within = omega arith;
-    work_is = p ∙ sym (ap work (drop_all (length U) U (omega arith)));
-    figure_is = q ∙ sym (ap figure (drop_all (length U) U (omega arith)));
-    lows = down_none 0 raised xs (length U);
-  }
-
   -- one place further down
   module _ (ys : List ℕ) (k w t j : ℕ) (d : Pass work figure raised U xs ys k w t) (s : k ≡ suc j) where
     pub inside : j < length U

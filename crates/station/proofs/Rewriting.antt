@@ -1,5 +1,5 @@
 -- A loop that writes one place after another: what is done has its new value, and what is left its old.
-use Rattle.std.proofs.Common.{◌≡◌, ℕ, suc, ◌+◌, ◌<◌, ◌≤◌, List, [], ◌∷◌, map, length, get_or, set, sym, refl, ap, ◌∙◌, subst, ⊎_elim, arith, get_or-set_other, get_or-set_same}
+use Rattle.std.proofs.Common.{◌≡◌, ℕ, suc, ◌<◌, ◌≤◌, List, [], ◌∷◌, map, length, get_or, set, sym, refl, ap, ◌∙◌, subst, ⊎_elim, arith, get_or-set_other, get_or-set_same}
 use Rattle.std.proofs.lemmas.Bool.{cases_eq}
 
 pub record Rewritten {X : Type 0} (d : X) (f : ℕ → X → X) (xs ys : List X) (Done Left : ℕ → Type 0) : Type 0 where
@@ -29,22 +29,10 @@ module _ {X : Type 0} (d : X) (f : ℕ → X → X) (xs : List X) where
   abbrev pub UpTo : List X → ℕ → Type 0
   UpTo ys k = Rewritten d f xs ys (λ q. q < k) (λ q. k ≤ q)
 
-  pub up_none : UpTo xs 0
-  up_none = record { done = λ q h. absurd (omega arith); left = λ q h. refl }
-
-  pub up_set : (ys : List X) (k : ℕ) → UpTo ys k → (x : X) → k < length ys → x ≡ f k (get_or ys k d) → UpTo (set ys k x) (k + 1)
-  up_set ys k r = rewritten_set d f xs ys _ _ _ _ r k (omega arith) (λ q h n. omega arith) (λ q h. ((λ e. omega arith), omega arith))
-
-  pub up_same : (ys : List X) (k : ℕ) → UpTo ys k → get_or ys k d ≡ f k (get_or ys k d) → UpTo ys (k + 1)
-  up_same ys k r = rewritten_same d f xs ys _ _ _ _ r k (omega arith) (λ q h n. omega arith) (λ q h. ((λ e. omega arith), omega arith))
-
   -- from the last of n places down
   module _ (n : ℕ) where
     abbrev pub DownTo : List X → ℕ → Type 0
     DownTo ys k = Rewritten d f xs ys (λ q. (k ≤ q) × (q < n)) (λ q. q < k)
-
-    pub down_none : DownTo xs n
-    down_none = record { done = λ q h. absurd (omega (arith, h.0, h.1)); left = λ q h. refl }
 
     pub down_set : (ys : List X) (k j : ℕ) → DownTo ys k → k ≡ suc j → (x : X) → j < length ys → x ≡ f j (get_or ys j d) → DownTo (set ys j x) j
     down_set ys k j r e = rewritten_set d f xs ys _ _ _ _ r j (omega arith) (λ q h n. (omega (arith, h.0), h.1)) (λ q h. ((λ e. omega arith), omega arith))

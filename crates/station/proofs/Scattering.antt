@@ -1,5 +1,5 @@
 -- Values of tasks, written out by job number.
-use Rattle.std.proofs.Common.{◌≡◌, ℕ, ◌+◌, ◌<◌, List, length, get_or, set, sym, refl, ◌∙◌, subst, ⊎_elim, arith, get_or-set_other, get_or-set_same}
+use Rattle.std.proofs.Common.{◌≡◌, ℕ, ◌+◌, ◌<◌, List, length, get_or, set, sym, ◌∙◌, subst, ⊎_elim, arith, get_or-set_other, get_or-set_same}
 use Rattle.std.specs.List.Sorted.{IsPermutation}
 use Rattle.std.specs.List.{AllByRecursion}
 use Rattle.std.proofs.ByRecursion.{All-from_get_or, All-get_or, all_shuffled}
@@ -13,9 +13,6 @@ use Rattle.station.specs.Pairwise.{pairwise_at}
 pub record Scattered (U : List Task) (vs xs ys : List ℕ) (q : ℕ) : Type 0 where
   pub done : (k : ℕ) → k < q → get_or ys (at U k).job 0 ≡ get_or vs k 0
   pub kept : (j : ℕ) → AllByRecursion (λ t. t.job ≡ j → ⊥) U → get_or ys j 0 ≡ get_or xs j 0
-
-pub scattered_none : (U : List Task) (vs xs : List ℕ) → Scattered U vs xs xs 0
-scattered_none U vs xs = record { done = λ k h. absurd (omega arith); kept = λ j f. refl }
 
 pub scattered_more : (U : List Task) (vs xs ys : List ℕ) (q : ℕ) → Formed U → (at U q).job < length ys → q < length U → Scattered U vs xs ys q → Scattered U vs xs (set ys (at U q).job (get_or vs q 0)) (q + 1)
 scattered_more U vs xs ys q f b h s = record {

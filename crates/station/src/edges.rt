@@ -1,16 +1,17 @@
 // Edge finding.
-ghost use Rattle.std.specs.Prelude.{◌≡◌, ℕ, ◌<◌, true, false, length, nat_lt, slice_index};
+ghost use Rattle.std.specs.Prelude.{◌≡◌, ℕ, ◌<◌, length, nat_lt, slice_index, is_err, OnOk};
 ghost use Rattle.station.specs.Tasks.{at, Formed};
 ghost use Rattle.station.specs.Sets.{any};
 ghost use Rattle.station.specs.Edges.{edges_overloaded, edges_earliest, edges_limit};
 ghost use Rattle.station.specs.EdgesPasses.{work_of, ends_by, completion_by, raised_by_later, raised_by_earlier, raised_by_both, raised_by_all, passes_end};
 ghost use Rattle.station.specs.Laws.{edges_lawful};
 
-use crate::kernel::Kernel;
-use crate::order::{ByStart, sort_starts};
+use crate::kernel::{Kernel, Overload};
+use crate::order::sort_starts;
 use crate::task::Task;
 
 /// A task that has to end after, or to start before, all of a set of others does so.
+#[derive(Clone, Copy)]
 pub struct EdgeFinding;
 
 // From the last task down, for the sets that end by `bound`: their work, and the greatest of a start and the work from
@@ -24,9 +25,7 @@ fn raise_by_later(tasks: &[Task], lows: &mut [u32], bound: u32) -> (u32, u32)
 {
     let mut work: u32 = 0;
     let mut completion: u32 = 0;
-    let mut k = tasks.len();
-    while k > 0 {
-        k -= 1;
+    for k in (0..tasks.len()).rev() {
         let t = tasks[k];
         if t.end <= bound {
             work += t.span;
@@ -48,8 +47,7 @@ fn raise_by_earlier(tasks: &[Task], lows: &mut [u32], bound: u32, work: u32, com
 {
     let mut rest = work;
     let mut peak: u32 = 0;
-    for k in 0..tasks.len() {
-        let t = tasks[k];
+    for (k, t) in tasks.iter().enumerate() {
         if t.end <= bound {
             peak = peak.max(t.lo + rest);
             rest -= t.span;
@@ -59,35 +57,33 @@ fn raise_by_earlier(tasks: &[Task], lows: &mut [u32], bound: u32, work: u32, com
     }
 }
 
-// Both passes for the sets that end by `bound`; whether one of them overloads the station.
-fn raise_by_both(tasks: &[Task], lows: &mut [u32], bound: u32) -> bool
+// Both passes for the sets that end by `bound`.
+fn raise_by_both(tasks: &[Task], lows: &mut [u32], bound: u32) -> Result<(), Overload>
     requires formed { Formed tasks.now }
     requires len { length lows.old ≡ length tasks.now }
-    ensures load { result ≡ nat_lt bound (completion_by bound tasks.now) }
-    ensures lows { result ≡ false → (q : ℕ) → q < length tasks.now → slice_index lows.new q ≡ raised_by_both bound tasks.now q (slice_index lows.old q) }
+    ensures load { is_err result ≡ nat_lt bound (completion_by bound tasks.now) }
+    ensures lows { OnOk result ((q : ℕ) → q < length tasks.now → slice_index lows.new q ≡ raised_by_both bound tasks.now q (slice_index lows.old q)) }
 {
     let (work, completion) = raise_by_later(tasks, lows, bound);
     if completion > bound {
-        return true;
+        return Err(Overload);
     }
     raise_by_earlier(tasks, lows, bound, work, completion);
-    false
+    Ok(())
 }
 
 // The passes for the end of each task, from the first starts as they are.
-fn raise_by_all(tasks: &[Task], lows: &mut [u32]) -> bool
+fn raise_by_all(tasks: &[Task], lows: &mut [u32]) -> Result<(), Overload>
     requires formed { Formed tasks.now }
     requires len { length lows.old ≡ length tasks.now }
     requires starts { (q : ℕ) → q < length tasks.now → slice_index lows.old q ≡ (at tasks.now q).lo }
-    ensures load { result ≡ any (passes_end tasks.now) tasks.now }
-    ensures lows { result ≡ false → (q : ℕ) → q < length tasks.now → slice_index lows.new q ≡ raised_by_all tasks.now q (length tasks.now) }
+    ensures load { is_err result ≡ any (passes_end tasks.now) tasks.now }
+    ensures lows { OnOk result ((q : ℕ) → q < length tasks.now → slice_index lows.new q ≡ raised_by_all tasks.now q (length tasks.now)) }
 {
-    for e in 0..tasks.len() {
-        if raise_by_both(tasks, lows, tasks[e].end) {
-            return true;
-        }
+    for t in tasks {
+        raise_by_both(tasks, lows, t.end)?;
     }
-    false
+    Ok(())
 }
 
 impl Kernel for EdgeFinding {
@@ -99,8 +95,8 @@ impl Kernel for EdgeFinding {
 
     ghost lawful = { edges_lawful };
 
-    fn raise(tasks: &mut [Task], lows: &mut [u32]) -> bool {
-        sort_starts::<ByStart>(tasks, lows);
+    fn raise(tasks: &mut [Task], lows: &mut [u32]) -> Result<(), Overload> {
+        sort_starts(tasks, lows, |t| t.lo);
         raise_by_all(tasks, lows)
     }
 }

@@ -1,6 +1,5 @@
 // What every kernel is, and the new first starts of a station's tasks by job number.
-ghost use Rattle.std.specs.Prelude.{◌≡◌, ℕ, ◌<◌, ◌≤◌, Bool, false, List, length, ◌≢◌, slice_index};
-ghost use Rattle.std.specs.List.Sorted.{IsPermutation};
+ghost use Rattle.std.specs.Prelude.{◌≡◌, ℕ, ◌<◌, ◌≤◌, Bool, List, length, ◌≢◌, slice_index, is_err, OnOk, IsPermutation};
 ghost use Rattle.std.specs.List.{AllByRecursion};
 ghost use Rattle.station.specs.declared.task.Task.{Task};
 ghost use Rattle.station.specs.Limits.{most_tasks};
@@ -9,6 +8,10 @@ ghost use Rattle.station.specs.Kernels.{Lawful};
 
 use crate::limits::MOST_TASKS;
 use crate::task::Task;
+
+/// The tasks of a station take longer than they have: what was worked out of their starts means nothing.
+#[derive(Clone, Copy, PartialEq, Eq, Debug)]
+pub struct Overload;
 
 /// A way to narrow the windows of one station's tasks.
 ///
@@ -20,13 +23,13 @@ pub trait Kernel {
 
     ghost limit: { Task → List Task → ℕ };
 
-    /// The new first starts, by the places that the tasks have afterwards; whether the tasks overload the station.
-    fn raise(tasks: &mut [Task], lows: &mut [u32]) -> bool
+    /// The new first starts, by the places that the tasks have afterwards.
+    fn raise(tasks: &mut [Task], lows: &mut [u32]) -> Result<(), Overload>
         requires formed { Formed tasks.old }
         requires len { length lows.old ≡ length tasks.old }
-        ensures load { result ≡ overloaded tasks.old }
+        ensures load { is_err result ≡ overloaded tasks.old }
         ensures shuffled { IsPermutation tasks.old tasks.new }
-        ensures raised { result ≡ false → (q : ℕ) → q < length tasks.old → slice_index lows.new q ≡ earliest (at tasks.new q) tasks.old };
+        ensures raised { OnOk result ((q : ℕ) → q < length tasks.old → slice_index lows.new q ≡ earliest (at tasks.new q) tasks.old) };
 
     ghost lawful: { Lawful overloaded earliest limit };
 }
@@ -40,25 +43,23 @@ fn scatter(tasks: &[Task], values: &[u32], out: &mut [u32])
     ensures written { (q : ℕ) → q < length tasks.now → slice_index out.new (at tasks.now q).job ≡ slice_index values.now q }
     ensures kept { (j : ℕ) → AllByRecursion (λ t. t.job ≢ j) tasks.now → slice_index out.new j ≡ slice_index out.old j }
 {
-    for q in 0..tasks.len() {
-        out[tasks[q].job] = values[q];
+    for (q, t) in tasks.iter().enumerate() {
+        out[t.job] = values[q];
     }
 }
 
-/// The new first starts of the tasks of one station, written to `out` by job number; whether the tasks overload it.
-pub fn raise_by_job<K: Kernel>(tasks: &mut [Task], out: &mut [u32]) -> bool
+/// The new first starts of the tasks of one station, written to `out` by job number.
+pub fn raise_by_job<K: Kernel>(tasks: &mut [Task], out: &mut [u32]) -> Result<(), Overload>
     requires formed { Formed tasks.old }
     requires few { length out.old ≤ most_tasks }
     requires numbered { AllByRecursion (λ t. t.job < length out.old) tasks.old }
-    ensures load { result ≡ K.Kernel.overloaded tasks.old }
-    ensures raised { result ≡ false → AllByRecursion (λ t. slice_index out.new t.job ≡ K.Kernel.earliest t tasks.old) tasks.old }
+    ensures load { is_err result ≡ K.Kernel.overloaded tasks.old }
+    ensures raised { OnOk result (AllByRecursion (λ t. slice_index out.new t.job ≡ K.Kernel.earliest t tasks.old) tasks.old) }
     ensures kept { (j : ℕ) → AllByRecursion (λ t. t.job ≢ j) tasks.old → slice_index out.new j ≡ slice_index out.old j }
 {
-    let mut store: [u32; MOST_TASKS] = [0; MOST_TASKS];
+    let mut store = [0; MOST_TASKS];
     let lows = &mut store[0..tasks.len()];
-    if K::raise(tasks, lows) {
-        return true;
-    }
+    K::raise(tasks, lows)?;
     scatter(tasks, lows, out);
-    false
+    Ok(())
 }

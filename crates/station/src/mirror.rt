@@ -12,12 +12,11 @@ pub fn reverse_time(tasks: &mut [Task])
     requires { AllByRecursion Fit tasks.old }
     ensures { tasks.new ≡ map mirror tasks.old }
 {
-    for k in 0..tasks.len() {
-        let t = tasks[k];
-        tasks[k] = Task {
+    for t in tasks.iter_mut() {
+        *t = Task {
             lo: HORIZON - t.end,
             end: HORIZON - t.lo,
-            ..t
+            ..*t
         };
     }
 }

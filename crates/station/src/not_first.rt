@@ -5,12 +5,14 @@ ghost use Rattle.station.specs.NotFirst.{not_first_earliest, not_first_limit};
 ghost use Rattle.station.specs.NotFirstPasses.{slack as least_slack, front, raised_by_sooner, raised_by_any, raised_from_all};
 ghost use Rattle.station.specs.Laws.{not_first_lawful};
 
-use crate::kernel::Kernel;
+use crate::kernel::{Kernel, Overload};
 use crate::limits::{HORIZON, MOST_WORK};
-use crate::order::{ByEndFalling, sort_starts};
+use crate::order::sort_starts;
 use crate::task::Task;
+use std::cmp::Reverse;
 
 /// A task that cannot come before, or after, all of a set of others comes after, or before, one of them.
+#[derive(Clone, Copy)]
 pub struct NotFirstNotLast;
 
 // From the earliest end to the latest, for the tasks that are complete at `ready` or later: the least of an end less the
@@ -23,9 +25,7 @@ fn raise_by_sooner(tasks: &[Task], lows: &mut [u32], ready: u32) -> u32
 {
     let mut work: u32 = 0;
     let mut slack: u32 = 2 * HORIZON + MOST_WORK;
-    let mut k = tasks.len();
-    while k > 0 {
-        k -= 1;
+    for k in (0..tasks.len()).rev() {
         let t = tasks[k];
         let complete = t.lo + t.span;
         if complete >= ready {
@@ -55,8 +55,8 @@ fn raise_by_any(tasks: &[Task], lows: &mut [u32], ready: u32, slack: u32)
     requires slack { slack ≡ least_slack ready tasks.now }
     ensures { (q : ℕ) → q < length tasks.now → slice_index lows.new q ≡ raised_by_any ready tasks.now q (slice_index lows.old q) }
 {
-    for k in 0..tasks.len() {
-        if slack < front_of(tasks[k], ready) + MOST_WORK {
+    for (k, t) in tasks.iter().enumerate() {
+        if slack < front_of(*t, ready) + MOST_WORK {
             lows[k] = lows[k].max(ready);
         }
     }
@@ -69,8 +69,8 @@ fn raise_from_all(tasks: &[Task], lows: &mut [u32])
     requires starts { (q : ℕ) → q < length tasks.now → slice_index lows.old q ≡ (at tasks.now q).lo }
     ensures { (q : ℕ) → q < length tasks.now → slice_index lows.new q ≡ raised_from_all tasks.now q (length tasks.now) }
 {
-    for j in 0..tasks.len() {
-        let ready = tasks[j].lo + tasks[j].span;
+    for t in tasks {
+        let ready = t.lo + t.span;
         let slack = raise_by_sooner(tasks, lows, ready);
         raise_by_any(tasks, lows, ready, slack);
     }
@@ -85,9 +85,9 @@ impl Kernel for NotFirstNotLast {
 
     ghost lawful = { not_first_lawful };
 
-    fn raise(tasks: &mut [Task], lows: &mut [u32]) -> bool {
-        sort_starts::<ByEndFalling>(tasks, lows);
+    fn raise(tasks: &mut [Task], lows: &mut [u32]) -> Result<(), Overload> {
+        sort_starts(tasks, lows, |t| Reverse(t.end));
         raise_from_all(tasks, lows);
-        false
+        Ok(())
     }
 }

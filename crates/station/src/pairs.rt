@@ -1,13 +1,14 @@
 // Pairs: two tasks at a time.
-ghost use Rattle.std.specs.Prelude.{◌≡◌, ℕ, ◌<◌, false, not, ◌&&◌, length, ◌==◌};
-ghost use Rattle.station.specs.Tasks.{at, Fit, Formed};
+ghost use Rattle.std.specs.Prelude.{◌≡◌, false, not, ◌&&◌, ◌==◌};
+ghost use Rattle.station.specs.Tasks.{Fit, Formed};
 ghost use Rattle.station.specs.Pairs.{comes_after, pairs_earliest, pairs_limit};
 ghost use Rattle.station.specs.Laws.{pairs_lawful};
 
-use crate::kernel::Kernel;
+use crate::kernel::{Kernel, Overload};
 use crate::task::Task;
 
 /// Of two tasks of which one cannot come before the other, it comes after it.
+#[derive(Clone, Copy)]
 pub struct PairOrdering;
 
 // Whether the task cannot come before the other, which is of another job.
@@ -19,17 +20,15 @@ fn comes_after(task: Task, other: Task) -> bool
     other.job != task.job && task.lo + task.span > other.end - other.span
 }
 
-// The first start of the task at `place` after all that it cannot come before.
-fn after_others(tasks: &[Task], place: usize) -> u32
+// The first start of a task after all that it cannot come before.
+fn after_others(task: Task, tasks: &[Task]) -> u32
+    requires fit { Fit task }
     requires formed { Formed tasks.now }
-    requires within { place < length tasks.now }
-    ensures { result ≡ pairs_earliest (at tasks.now place) tasks.now }
+    ensures { result ≡ pairs_earliest task tasks.now }
 {
-    let task = tasks[place];
     let mut lo = task.lo;
-    for k in 0..tasks.len() {
-        let other = tasks[k];
-        if comes_after(task, other) {
+    for other in tasks {
+        if comes_after(task, *other) {
             lo = lo.max(other.lo + other.span);
         }
     }
@@ -45,10 +44,10 @@ impl Kernel for PairOrdering {
 
     ghost lawful = { pairs_lawful };
 
-    fn raise(tasks: &mut [Task], lows: &mut [u32]) -> bool {
-        for q in 0..tasks.len() {
-            lows[q] = after_others(tasks, q);
+    fn raise(tasks: &mut [Task], lows: &mut [u32]) -> Result<(), Overload> {
+        for (q, low) in lows.iter_mut().enumerate() {
+            *low = after_others(tasks[q], tasks);
         }
-        false
+        Ok(())
     }
 }

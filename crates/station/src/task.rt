@@ -1,7 +1,7 @@
 // A task of a station.
 
 /// A job at a station, with the starts that are left to it.
-#[derive(Clone, Copy)]
+#[derive(Clone, Copy, Default)]
 pub struct Task {
     /// The earliest start.
     pub lo: u32,
@@ -12,11 +12,3 @@ pub struct Task {
     /// The job's number.
     pub job: usize,
 }
-
-/// A place for a task that is not filled yet.
-pub const BLANK_TASK: Task = Task {
-    lo: 0,
-    span: 0,
-    end: 0,
-    job: 0,
-};

@@ -4,7 +4,7 @@ use Rattle.station.specs.Tasks.{at}
 use Rattle.station.specs.EdgesPasses.{raised_by_all, passes_end}
 use Rattle.station.proofs.edges.raise_by_all.Given as goal
 
-abbrev pub invariant-loop-e : goal.invariant-loop-e
-invariant-loop-e l =
-    ((q : ℕ) → q < length l.tasks → get_or l.lows q 0 ≡ raised_by_all l.tasks q l.e) ×
-    ((k : ℕ) → k < l.e → passes_end l.tasks (at l.tasks k) ≡ false)
+abbrev pub invariant-loop-t : goal.invariant-loop-t
+invariant-loop-t l =
+    ((q : ℕ) → q < length l.tasks → get_or l.lows q 0 ≡ raised_by_all l.tasks q l.t-index) ×
+    ((k : ℕ) → k < l.t-index → passes_end l.tasks (at l.tasks k) ≡ false)

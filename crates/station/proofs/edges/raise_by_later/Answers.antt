@@ -1,14 +1,10 @@
 -- What is left to show of `raise_by_later`.
-use Rattle.std.proofs.Common.{◌-◌, refl, arith}
+use Rattle.std.proofs.Common.{◌-◌, arith}
 use Rattle.station.specs.EdgesPasses.{ends_by}
 use Rattle.station.specs.Members.{fit_at}
 use Rattle.station.specs.Works.{work_most}
-use Rattle.station.proofs.Passes.{pass_none}
 use Rattle.station.proofs.EdgesTurns.{later_held, later_raise, later_pass}
 use Rattle.station.proofs.edges.raise_by_later.Goals as goal
-
-pub loop-k-init : goal.loop-k-init
-loop-k-init c = pass_none _ _ _ _ _ 0 0 refl refl
 
 pub overflow_add-work : goal.overflow_add-work
 overflow_add-work c =
@@ -21,11 +17,6 @@ overflow_add-t c =
     let d = c.loop-k.invariant in
     let t = fit_at c.args.tasks.now c.requires.formed (c.loop-k.k - 1) (omega (arith, d.within)) in
     omega (arith, d.work_is, t.short, t.room, t.ends, work_most (ends_by c.args.bound) c.args.tasks.now c.loop-k.k c.requires.formed)
-
-pub overflow_add-t-else-t-bound : goal.overflow_add-t-else-t-bound
-overflow_add-t-else-t-bound c =
-    let t = fit_at c.args.tasks.now c.requires.formed (c.loop-k.k - 1) (omega (arith, c.loop-k.invariant.within)) in
-    omega (arith, t.room, t.ends)
 
 pub overflow_add-t-else-t-bound-2 : goal.overflow_add-t-else-t-bound-2
 overflow_add-t-else-t-bound-2 c =

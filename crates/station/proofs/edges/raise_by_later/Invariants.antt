@@ -4,6 +4,3 @@ use Rattle.station.proofs.edges.raise_by_later.Given as goal
 
 abbrev pub invariant-loop-k : goal.invariant-loop-k
 invariant-loop-k l = Later l.bound l.tasks l.initial.lows l.lows l.k l.work l.completion
-
-abbrev pub decreases-loop-k : goal.decreases-loop-k
-decreases-loop-k l = l.k

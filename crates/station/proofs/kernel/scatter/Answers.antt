@@ -2,17 +2,8 @@
 use Rattle.std.proofs.Common.{◌<◌, length, arith}
 use Rattle.std.proofs.ByRecursion.{All-get_or}
 use Rattle.station.specs.Tasks.{no_task}
-use Rattle.station.proofs.Scattering.{scattered_none, scattered_more}
+use Rattle.station.proofs.Scattering.{scattered_more}
 use Rattle.station.proofs.kernel.scatter.Goals as goal
-
-pub loop-q-init : goal.loop-q-init
-loop-q-init c = scattered_none _ _ _
-
-pub offset_bounds-out-tasks : goal.offset_bounds-out-tasks
-offset_bounds-out-tasks c = omega (arith, All-get_or (λ t. t.job < length c.args.out.now) c.args.tasks.now c.loop-q.q no_task c.loop-q-test.true c.requires.numbered, c.requires.few)
-
-pub bounds-out-tasks : goal.bounds-out-tasks
-bounds-out-tasks c = omega (arith, All-get_or (λ t. t.job < length c.args.out.now) c.args.tasks.now c.loop-q.q no_task c.loop-q-test.true c.requires.numbered, c.loop-q.auto.out)
 
 pub loop-q-preserved : goal.loop-q-preserved
 loop-q-preserved c =

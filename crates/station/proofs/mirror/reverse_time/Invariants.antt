@@ -4,5 +4,5 @@ use Rattle.station.specs.Mirror.{mirror}
 use Rattle.station.proofs.Rewriting.{UpTo}
 use Rattle.station.proofs.mirror.reverse_time.Given as goal
 
-abbrev pub invariant-loop-k : goal.invariant-loop-k
-invariant-loop-k l = UpTo no_task (λ q t. mirror t) l.initial.tasks l.tasks l.k
+abbrev pub invariant-loop-t : goal.invariant-loop-t
+invariant-loop-t l = UpTo no_task (λ q t. mirror t) l.initial.tasks l.tasks l.t-index

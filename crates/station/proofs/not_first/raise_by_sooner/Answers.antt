@@ -2,33 +2,21 @@
 use Rattle.std.proofs.Common.{◌≡◌, ◌+◌, ◌-◌, min, refl, arith}
 use Rattle.station.specs.Limits.{most_work}
 use Rattle.station.specs.Tasks.{at}
-use Rattle.station.specs.NotFirstPasses.{complete_from, no_slack}
+use Rattle.station.specs.NotFirstPasses.{complete_from}
 use Rattle.station.specs.Members.{fit_at}
 use Rattle.station.specs.Works.{work_most}
-use Rattle.station.proofs.Passes.{pass_none, pass_as}
+use Rattle.station.proofs.Passes.{pass_as}
 use Rattle.station.proofs.NotFirstTurns.{sooner_raise, sooner_keep, sooner_pass}
 use Rattle.station.proofs.not_first.raise_by_sooner.Goals as goal
 use Rattle.station.proofs.not_first.raise_by_sooner.Goals.{then-slack-complete, else-slack-complete}
 
-pub loop-k-init : goal.loop-k-init
-loop-k-init c = pass_none _ _ _ _ _ 0 no_slack refl refl
-
 pub loop-k-preserved : goal.loop-k-preserved
 loop-k-preserved c = sooner_pass _ _ _ _ _ _ _ (c.loop-k.k - 1) c.loop-k.invariant (omega arith) c.if-complete-ready.false
-
-pub overflow_add-complete : goal.overflow_add-complete
-overflow_add-complete c = let t = fit_at c.args.tasks.now c.requires.formed (c.loop-k.k - 1) (omega (arith, c.loop-k.invariant.within)) in omega (arith, t.room, t.ends)
-
-pub overflow_add-complete-then-complete-ready : goal.overflow_add-complete-then-complete-ready
-overflow_add-complete-then-complete-ready c = let t = fit_at c.args.tasks.now c.requires.formed (c.loop-k.k - 1) (omega (arith, c.loop-k.invariant.within)) in omega (arith, t.room, t.ends)
 
 pub overflow_add-work : goal.overflow_add-work
 overflow_add-work c =
     let t = fit_at c.args.tasks.now c.requires.formed (c.loop-k.k - 1) (omega (arith, c.loop-k.invariant.within)) in
     omega (arith, c.loop-k.invariant.work_is, t.short, work_most (complete_from c.args.ready) c.args.tasks.now c.loop-k.k c.requires.formed)
-
-pub overflow_add-t : goal.overflow_add-t
-overflow_add-t c = omega (arith, (fit_at c.args.tasks.now c.requires.formed (c.loop-k.k - 1) (omega (arith, c.loop-k.invariant.within))).ends)
 
 pub overflow_sub-t : goal.overflow_sub-t
 overflow_sub-t c =

@@ -4,6 +4,3 @@ use Rattle.station.proofs.not_first.raise_by_sooner.Given as goal
 
 abbrev pub invariant-loop-k : goal.invariant-loop-k
 invariant-loop-k l = Sooner l.ready l.tasks l.initial.lows l.lows l.k l.work l.slack
-
-abbrev pub decreases-loop-k : goal.decreases-loop-k
-decreases-loop-k l = l.k

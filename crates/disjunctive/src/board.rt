@@ -1,0 +1,43 @@
+// The jobs of a sheet beside their windows, and the tasks of a station out of them.
+ghost use Rattle.std.specs.Prelude.{◌≡◌, ◌≤◌, true, length};
+ghost use Rattle.sheet.specs.Sound.{AllEntered};
+ghost use Rattle.rule.specs.Windows.{formed};
+ghost use Rattle.disjunctive.specs.Gathering.{tasks_at};
+
+use arrayvec::ArrayVec;
+use sheet::records::{Job, Window};
+use station::limits::MOST_TASKS;
+use station::task::Task;
+
+/// Jobs as a sheet has them, and well-formed windows of theirs.
+#[derive(Clone, Copy)]
+pub struct Board<'a> {
+    /// The jobs, by number.
+    pub jobs: &'a [Job],
+    /// The window of each job.
+    pub windows: &'a [Window],
+    ghost entered: { AllEntered jobs.now },
+    ghost formed: { formed (length jobs.now) windows.now ≡ true },
+    ghost few: { length jobs.now ≤ 48 },
+}
+
+impl<'a> Board<'a> {
+    /// The jobs at a station with their windows, by number.
+    pub fn tasks_at(&self, station: u32) -> ArrayVec<Task, MOST_TASKS>
+        ensures { result.items ≡ tasks_at self.now.jobs.now self.now.windows.now station }
+    {
+        let mut tasks = ArrayVec::new();
+        for (number, window) in self.windows.iter().enumerate() {
+            let job = self.jobs[number];
+            if job.station == station {
+                tasks.push(Task {
+                    lo: window.lo,
+                    span: job.duration,
+                    end: window.hi + job.duration,
+                    job: number,
+                });
+            }
+        }
+        tasks
+    }
+}
