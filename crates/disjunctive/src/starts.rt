@@ -6,7 +6,7 @@ ghost use Rattle.rule.specs.Bounds.{all_open, together};
 ghost use Rattle.station.specs.Limits.{horizon};
 ghost use Rattle.disjunctive.specs.Gathering.{span};
 
-use rule::verdict::Verdict;
+use rule::verdict::{Dead, Verdict};
 use sheet::limits::MAX_JOBS;
 use sheet::records::{Job, Window};
 use station::limits::HORIZON;
@@ -52,12 +52,12 @@ impl Starts {
         ensures after { windows.new ≡ left (together (λ k. slice_index self.now.lows k) (λ k. horizon + 1 - (slice_index self.now.backs k + span jobs.now k)) (length windows.old)) windows.old }
     {
         if !self.all_open(jobs) {
-            return Verdict::Dead;
+            return Err(Dead);
         }
         for (number, window) in windows.iter_mut().enumerate() {
             let hi = self.limit(number, jobs[number]) - 1;
             *window = Window { lo: self.lows[number], hi };
         }
-        Verdict::Alive
+        Ok(())
     }
 }

@@ -10,7 +10,7 @@ ghost use Rattle.disjunctive.specs.StationCuts.{any_below, stations, among, stat
 
 use crate::board::Board;
 use crate::starts::Starts;
-use rule::verdict::Verdict;
+use rule::verdict::{Dead, Verdict};
 use sheet::limits::{LAST_STATION, MAX_JOBS};
 use sheet::records::Window;
 use sheet::table::Sheet;
@@ -64,6 +64,6 @@ pub fn propagate<K: Kernel>(sheet: &Sheet, windows: &mut [Window]) -> Verdict
     };
     match board.raise_all::<K>() {
         Ok(starts) => starts.set_together(jobs, windows),
-        Err(_) => Verdict::Dead,
+        Err(Overload) => Err(Dead),
     }
 }
