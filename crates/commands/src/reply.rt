@@ -1,6 +1,6 @@
 // What is printed for a line.
-ghost use Rattle.std.specs.Prelude.{◌≡◌, Some};
-ghost use Rattle.commands.specs.Replies.{outcome_word, reply_text};
+ghost use Rattle.std.specs.Prelude.{Some};
+ghost use Rattle.commands.specs.Replies.{reply_text};
 
 use calls::call::Answer;
 use std::fmt;
@@ -13,21 +13,6 @@ pub enum Reply {
     IllWritten,
 }
 
-/// The word for an outcome's number, of which there are three.
-fn outcome_word(outcome: u32) -> &'static str
-    ensures { result.now ≡ outcome_word outcome }
-{
-    if outcome == 0 {
-        "open"
-    } else if outcome == 1 {
-        "found"
-    } else if outcome == 2 {
-        "impossible"
-    } else {
-        "unknown"
-    }
-}
-
 impl fmt::Display for Reply {
     ghost output = { λ r. Some (reply_text r) };
 
@@ -36,15 +21,9 @@ impl fmt::Display for Reply {
             Reply::IllWritten => write!(f, "ill written"),
             Reply::Answered(answer) => match answer {
                 Answer::Number(number) => write!(f, "{number}"),
-                Answer::Refused(refusal) => {
-                    let number = refusal.number();
-                    write!(f, "refused {number}")
-                }
+                Answer::Refused(refusal) => write!(f, "{refusal}"),
                 Answer::Closed => write!(f, "closed"),
-                Answer::Advanced(outcome, looks) => {
-                    let word = outcome_word(outcome);
-                    write!(f, "{word} {looks}")
-                }
+                Answer::Advanced(outcome, looks) => write!(f, "{outcome} {looks}"),
                 Answer::Reopened => write!(f, "reopened"),
                 Answer::OutOfTurn => write!(f, "out of turn"),
             },

@@ -1,7 +1,5 @@
 // The house pile: the rules that every plan of the hall keeps.
-use disjunctive::edges::Edges;
-use disjunctive::not_first::NotFirst;
-use disjunctive::pairs::Pairs;
+use disjunctive::rules::{EDGES, Edges, NOT_FIRST, NotFirst, PAIRS, Pairs};
 use route::Route;
 use rule::both::Both;
 use rule::standstill::Standstill;
@@ -10,4 +8,4 @@ use rule::standstill::Standstill;
 pub type HousePile = Both<Route, Standstill<Both<Pairs, Both<Edges, NotFirst>>>>;
 
 /// The house pile.
-pub const HOUSE_PILE: HousePile = Both(Route, Standstill(Both(Pairs, Both(Edges, NotFirst))));
+pub const HOUSE_PILE: HousePile = Both(Route, Standstill(Both(PAIRS, Both(EDGES, NOT_FIRST))));

@@ -1,10 +1,12 @@
 // What comes of a slip: a report of its search, or why it was not planned.
-ghost use Rattle.std.specs.Prelude.{◌≡◌};
+ghost use Rattle.std.specs.Prelude.{◌≡◌, Some};
+ghost use Rattle.report.specs.Texts.{unplanned_text};
 ghost use Rattle.report.specs.declared.reported.Unplanned.TheVariants.{Faulty, Refused};
 
 use planner::state::Search;
 use sheet::refusal::Refusal;
 use slip::fault::Fault;
+use std::fmt;
 
 /// Why a slip was not planned.
 #[derive(Clone, Copy, PartialEq, Eq, Debug)]
@@ -28,6 +30,17 @@ impl From<Refusal> for Unplanned {
 
     fn from(refusal: Refusal) -> Unplanned {
         Unplanned::Refused(refusal)
+    }
+}
+
+impl fmt::Display for Unplanned {
+    ghost output = { λ u. Some (unplanned_text u) };
+
+    fn fmt<W: fmt::Write>(&self, f: &mut fmt::Formatter<W>) -> fmt::Result {
+        match *self {
+            Unplanned::Faulty(fault) => write!(f, "{fault}"),
+            Unplanned::Refused(refusal) => write!(f, "{refusal}"),
+        }
     }
 }
 

@@ -1,5 +1,5 @@
--- The number of each refusal.
-use Rattle.std.specs.Prelude.{ℕ}
+-- The number of each refusal, and how it is printed.
+use Rattle.std.specs.Prelude.{ℕ, List, ◌++◌, codes, decimal}
 use Rattle.sheet.specs.declared.refusal.Refusal.{Refusal}
 use Rattle.sheet.specs.declared.refusal.Refusal.TheVariants.{UnknownJob, SheetFull, UnknownStation, DurationOutOfRange, TimeOutOfRange, WindowTooShort, SelfLink, WaitTooLong, DuplicateLink, LinksFull, LooksOutOfRange, NotFound, MalformedWindows, BufferTooShort}
 
@@ -18,3 +18,6 @@ refusal_number LooksOutOfRange = 11
 refusal_number NotFound = 12
 refusal_number MalformedWindows = 13
 refusal_number BufferTooShort = 14
+
+abbrev pub refusal_text : Refusal → List ℕ
+refusal_text r = codes "refused " ++ decimal (refusal_number r)

@@ -1,6 +1,8 @@
 // Why a call is refused, and the number by which it is told.
-ghost use Rattle.std.specs.Prelude.{◌≡◌};
-ghost use Rattle.sheet.specs.Refusals.{refusal_number};
+ghost use Rattle.std.specs.Prelude.{◌≡◌, Some};
+ghost use Rattle.sheet.specs.Refusals.{refusal_number, refusal_text};
+
+use std::fmt;
 
 /// The causes, in the order in which they speak where several apply.
 #[derive(Clone, Copy, PartialEq, Eq, Debug)]
@@ -41,5 +43,14 @@ impl From<Refusal> for u32 {
     /// The number that tells the cause.
     fn from(refusal: Refusal) -> u32 {
         refusal as u32
+    }
+}
+
+impl fmt::Display for Refusal {
+    ghost output = { λ refusal. Some (refusal_text refusal) };
+
+    fn fmt<W: fmt::Write>(&self, f: &mut fmt::Formatter<W>) -> fmt::Result {
+        let number = u32::from(*self);
+        write!(f, "refused {number}")
     }
 }
