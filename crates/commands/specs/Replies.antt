@@ -1,15 +1,12 @@
 -- What is printed for a line.
-use Rattle.std.specs.Prelude.{ℕ, cond, List, ◌∷◌, ◌++◌, codes, decimal, ◌==◌}
+use Rattle.std.specs.Prelude.{ℕ, List, ◌∷◌, ◌++◌, codes, decimal}
 use Rattle.sheet.specs.Refusals.{refusal_number}
+use Rattle.search.specs.Outcomes.{outcome_word}
 use Rattle.text.specs.Bytes.{space}
 use Rattle.calls.specs.declared.call.Answer.{Answer}
 use Rattle.calls.specs.declared.call.Answer.TheVariants.{Number, Refused, Closed, Advanced, Reopened, OutOfTurn}
 use Rattle.commands.specs.declared.reply.Reply.{Reply}
 use Rattle.commands.specs.declared.reply.Reply.TheVariants.{Answered, IllWritten}
-
--- an advance answers one of the three numbers
-abbrev pub outcome_word : ℕ → List ℕ
-outcome_word o = cond (o == 0) (codes "open") (cond (o == 1) (codes "found") (cond (o == 2) (codes "impossible") (codes "unknown")))
 
 abbrev pub answer_text : Answer → List ℕ
 answer_text (Number n) = decimal n

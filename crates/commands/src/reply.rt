@@ -1,6 +1,6 @@
 // What is printed for a line.
-ghost use Rattle.std.specs.Prelude.{◌≡◌, Some};
-ghost use Rattle.commands.specs.Replies.{outcome_word, reply_text};
+ghost use Rattle.std.specs.Prelude.{Some};
+ghost use Rattle.commands.specs.Replies.{reply_text};
 
 use calls::call::Answer;
 use std::fmt;
@@ -10,21 +10,6 @@ use std::fmt;
 pub enum Reply {
     Answered(Answer),
     IllWritten,
-}
-
-/// The word for an outcome's number, of which there are three.
-fn outcome_word(outcome: u32) -> &'static str
-    ensures { result.now ≡ outcome_word outcome }
-{
-    if outcome == 0 {
-        "open"
-    } else if outcome == 1 {
-        "found"
-    } else if outcome == 2 {
-        "impossible"
-    } else {
-        "unknown"
-    }
 }
 
 impl fmt::Display for Reply {
@@ -40,10 +25,7 @@ impl fmt::Display for Reply {
                     write!(f, "refused {number}")
                 }
                 Answer::Closed => write!(f, "closed"),
-                Answer::Advanced(outcome, looks) => {
-                    let word = outcome_word(outcome);
-                    write!(f, "{word} {looks}")
-                }
+                Answer::Advanced(outcome, looks) => write!(f, "{outcome} {looks}"),
                 Answer::Reopened => write!(f, "reopened"),
                 Answer::OutOfTurn => write!(f, "out of turn"),
             },
