@@ -1,11 +1,11 @@
 -- The narrowest window: the definition chooses it, and so does a walk that keeps the first with the least slack.
-use Rattle.std.proofs.Common.{◌≡◌, ℕ, zero, suc, ◌+◌, ◌<◌, ◌≤◌, Bool, true, false, cond, ◌&&◌, ltb, leb, Ordering, Less, Equal, Greater, List, [], ◌∷◌, map, length, fold, Some, None, Option, option_map, sym, refl, ap, ◌∙◌, add-zero, zero-add, subst, ⊎_elim, not-suc-le-zero, arith}
+use Rattle.std.proofs.Common.{◌≡◌, ℕ, zero, suc, ◌+◌, ◌<◌, ◌≤◌, Bool, true, false, cond, ◌&&◌, ltb, leb, Ordering, Less, Equal, Greater, List, [], ◌∷◌, length, fold, Some, None, Option, option_map, sym, refl, ap, ◌∙◌, add-zero, zero-add, subst, ⊎_elim, not-suc-le-zero, arith}
 use Rattle.std.proofs.lemmas.Bool.{cases_Bool, cond-true, cond-false, and_parts, and_cases, ltb-true, ltb-false, leb-true, leb-false}
 use Rattle.std.proofs.lemmas.Bool.Decides.{nat_tests}
 use Rattle.std.proofs.lemmas.Iterator.{YieldsList}
 use Rattle.std.proofs.lemmas.Iterator.Consumers.{reduce_by_from_yields_List}
 use Rattle.std.specs.Fn.{CalledAt}
-use Rattle.std.specs.Iterator.{Drains, KeyTurn, PicksMinByKey}
+use Rattle.std.specs.Iterator.{KeyTurn, PicksMinByKey}
 use Rattle.std.specs.List.{FoldsTo, reduce, filter, enumerate_from}
 use Rattle.std.specs.Ordering.{nat_cmp, min_by_ordering}
 use denote.Param.Members.{Mut}
@@ -103,26 +103,14 @@ at_next : (n : ℕ) (w : Window) (ws : List Window) (k : ℕ) → at (n + 1) ws 
 at_next n w ws k = let e : (n + 1) + k ≡ n + suc k = omega arith in ap (λ (i : ℕ). (i, window ws k)) e
 
 narrow_step : (n : ℕ) (w : Window) (ws : List Window) (ps : List (ℕ × Window)) (q : Option ℕ) → wide (n, w) ≡ false → reduce first_of ps ≡ option_map (at (n + 1) ws) q → reduce first_of ps ≡ option_map (at n (w ∷ ws)) (or_first w ws q)
-narrow_step n w ws ps None t e = let u : ltb 0 (slack w) ≡ false = grind (arith, nat_tests) in e ∙ ap (option_map (at n (w ∷ ws))) (sym (cond-false _ _ _ u))
-narrow_step n w ws ps (Some k) t e =
-    let u : (ltb 0 (slack w) && leb (slack w) (slack (window ws k))) ≡ false = grind (arith, nat_tests) in
-    e ∙ ap Some (at_next n w ws k) ∙ ap (option_map (at n (w ∷ ws))) (sym (cond-false _ _ _ u))
+narrow_step n w ws ps None t e = grind (arith, nat_tests, e)
+narrow_step n w ws ps (Some k) t e = grind (arith, nat_tests, e, at_next n w ws k)
 
 first_of_two : (n : ℕ) (w : Window) (ws : List Window) (k : ℕ) → wide (n, w) ≡ true → Some (first_of (n, w) (at n (w ∷ ws) (suc k))) ≡ option_map (at n (w ∷ ws)) (or_first w ws (Some k))
-first_of_two n w ws k t =
-    ⊎_elim
-    (λ (l : ltb (slack (window ws k)) (slack w) ≡ true).
-    let u : (ltb 0 (slack w) && leb (slack w) (slack (window ws k))) ≡ false = grind (arith, nat_tests) in
-    ap Some (cond-true _ _ _ l) ∙ ap (option_map (at n (w ∷ ws))) (sym (cond-false _ _ _ u)))
-    (λ (l : ltb (slack (window ws k)) (slack w) ≡ false).
-    let u : (ltb 0 (slack w) && leb (slack w) (slack (window ws k))) ≡ true = grind (arith, nat_tests) in
-    ap Some (cond-false _ _ _ l) ∙ ap (λ (i : ℕ). Some (i, w)) (sym (add-zero n)) ∙ ap (option_map (at n (w ∷ ws))) (sym (cond-true _ _ _ u)))
-    (cases_Bool (ltb (slack (window ws k)) (slack w)))
+first_of_two n w ws k t = grind (arith, nat_tests, add-zero)
 
 first_of_one : (n : ℕ) (w : Window) (ws : List Window) → wide (n, w) ≡ true → Some (n, w) ≡ option_map (at n (w ∷ ws)) (or_first w ws None)
-first_of_one n w ws t =
-    let u : ltb 0 (slack w) ≡ true = grind (arith, nat_tests) in
-    ap (λ (i : ℕ). Some (i, w)) (sym (add-zero n)) ∙ ap (option_map (at n (w ∷ ws))) (sym (cond-true _ _ _ u))
+first_of_one n w ws t = grind (arith, nat_tests, add-zero)
 
 wide_step : (n : ℕ) (w : Window) (ws : List Window) (ps : List (ℕ × Window)) (q : Option ℕ) → wide (n, w) ≡ true → reduce first_of ps ≡ option_map (at (n + 1) ws) q → reduce first_of ((n, w) ∷ ps) ≡ option_map (at n (w ∷ ws)) (or_first w ws q)
 wide_step n w ws ps None t e =

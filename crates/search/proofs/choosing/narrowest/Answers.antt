@@ -1,6 +1,6 @@
 -- The walk passes the windows with slack, and picks the first with the least.
-use Rattle.std.proofs.Common.{◌≡◌, ℕ, Option, option_map, subst, sym, ◌∙◌, rules, tests}
-use Rattle.std.proofs.lemmas.Iterator.{YieldsList, YieldsList-from_slice}
+use Rattle.std.proofs.Common.{◌≡◌, ℕ, option_map, subst, sym, ◌∙◌, rules, tests}
+use Rattle.std.proofs.lemmas.Iterator.{YieldsList-from_slice}
 use Rattle.std.proofs.lemmas.Iterator.Consumers.{YieldsList-at, YieldsList-from_filter, YieldsList-from_enumerate}
 use denote.Ref.{Bor}
 use Rattle.sheet.specs.declared.records.Window.{Window}
