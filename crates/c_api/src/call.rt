@@ -43,7 +43,7 @@ fn report_answer(report: Report<HousePile>, buffer: &mut [u8]) -> u32
     if let Some(starts) = report.timetable() {
         write_starts(starts, buffer);
     }
-    report.outcome().number()
+    report.outcome().into()
 }
 
 /// Plans a slip for a C program.

@@ -11,7 +11,6 @@ use Rattle.forbid_all.specs.ForbidAll.{forbid_all_cut}
 use Rattle.house.specs.Piles.{house_cut}
 use Rattle.search.specs.declared.outcome.Outcome.{Outcome}
 use Rattle.search.specs.declared.outcome.Outcome.TheVariants.{Open, Found, Impossible}
-use Rattle.search.specs.Outcomes.{outcome_number}
 use Rattle.calls.specs.declared.call.Call.{Call}
 use Rattle.calls.specs.declared.call.Call.TheVariants.{Enter, Link, Move, Close, Advance, Start, Reopen}
 use Rattle.calls.specs.declared.call.Answer.{Answer}
@@ -35,7 +34,7 @@ Leaves cut ws = cut ws ≡ live ws
 
 -- an advance that came to this outcome with so many looks
 abbrev pub came_to : Outcome → ℕ → Answer
-came_to o m = Advanced (outcome_number o) m
+came_to o m = Advanced o m
 
 -- the calls on a fresh draft with this pile are answered so
 abbrev pub Answered : (Entries → List Window → Cut) → List (Call × Answer) → Type 0

@@ -2,6 +2,7 @@
 use crate::example::EXAMPLE;
 use house::planning::{plan, plan_within};
 use report::reported::Unplanned;
+use search::outcome::Outcome;
 use std::test::Fail;
 
 /// Slips with looks and room for starts; the number, line and inside of what is wrong, with zeros for a refusal.
@@ -29,7 +30,7 @@ fn the_example_is_planned(rt: HostRuntime) -> Result<(), Fail> {
     let Ok(report) = plan(EXAMPLE.as_bytes(), 100_000) else {
         return Err(Fail::new("not planned"));
     };
-    assert_eq!(rt; report.outcome().number(), 1);
+    assert_eq!(rt; report.outcome(), Outcome::Found);
     assert_eq!(rt; report.looks(), 1);
     assert_eq!(rt; report.jobs().len(), 2);
     let Some(starts) = report.timetable() else {
@@ -44,7 +45,7 @@ fn the_room_may_be_just_enough(rt: HostRuntime) -> Result<(), Fail> {
     let Ok(report) = plan_within(EXAMPLE.as_bytes(), 1, 2) else {
         return Err(Fail::new("not planned"));
     };
-    assert_eq!(rt; report.outcome().number(), 1);
+    assert_eq!(rt; report.outcome(), Outcome::Found);
     Ok(())
 }
 

@@ -6,7 +6,6 @@ ghost use Rattle.std.specs.Prelude.{◌≤◌, length, IfOk};
 use house::pile::HousePile;
 use house::planning::plan;
 use report::reported::{Report, Unplanned};
-use search::outcome::Outcome;
 use std::io;
 use std::io::Read;
 
@@ -49,14 +48,9 @@ fn print_timetable(rt: &HostRuntime, report: &Report<HousePile>) -> io::Result<(
 /// The outcome with the looks made, and after found the timetable.
 fn print_report(rt: &HostRuntime, report: Report<HousePile>) -> io::Result<()> {
     let looks = report.looks();
-    match report.outcome() {
-        Outcome::Open => println!(rt; "open {looks}"),
-        Outcome::Impossible => println!(rt; "impossible {looks}"),
-        Outcome::Found => {
-            println!(rt; "found {looks}")?;
-            print_timetable(rt, &report)
-        }
-    }
+    let outcome = report.outcome();
+    println!(rt; "{outcome} {looks}")?;
+    print_timetable(rt, &report)
 }
 
 /// A fault's number, line and inside; or a refusal, which comes for no slip.

@@ -1,26 +1,23 @@
--- A window that is narrower than the best so far takes its place, and the best of all is the choice.
-use Rattle.std.proofs.Common.{◌≤◌, arith}
-use Rattle.rule.specs.Windows.{window}
-use Rattle.sheet.specs.Limits.{last_minute}
-use Rattle.search.specs.Choosing.{slack}
-use Rattle.search.proofs.Nearest.{best_new, best_old, best_is, best_of_all, slack_small, one_choice, narrowest_chooses}
+-- The walk passes the windows with slack, and picks the first with the least.
+use Rattle.std.proofs.Common.{◌≡◌, ℕ, option_map, subst, sym, ◌∙◌, rules, tests}
+use Rattle.std.proofs.lemmas.Iterator.{YieldsList-from_slice}
+use Rattle.std.proofs.lemmas.Iterator.Consumers.{YieldsList-at, YieldsList-from_filter, YieldsList-from_enumerate}
+use denote.Ref.{Bor}
+use Rattle.sheet.specs.declared.records.Window.{Window}
+use Rattle.search.specs.Choosing.{narrowest, Chooses}
+use Rattle.search.proofs.Nearest.{narrowest_chooses, wide, picked, walk_chooses, number_chosen}
 use Rattle.search.proofs.choosing.narrowest.Goals as goal
-use Rattle.search.proofs.choosing.narrowest.Goals.{then-w+then-w-least, else-w, else-w-via-then-w+else-w-least, else-w-via-else-w}
 
-pub loop-job-preserved : goal.loop-job-preserved
-loop-job-preserved c =
+choice : (c : goal.After-map) → c.map.result ≡ narrowest c.args.windows.now
+choice c =
     let ws = c.args.windows.now in
-    let i = c.loop-job.job in
-    let small : slack (window ws i) ≤ last_minute = slack_small ws i c.requires c.loop-job-test.true in
-    elim c.if-w.branch [
-      | then-w+then-w-least w ↦ best_is ws _ _ _ _ _ w.best-is w.least-is (best_new ws i _ _ (omega (arith, w.if-w.true)) w.if-w-least.true c.loop-job.invariant)
-      | else-w w ↦ best_is ws _ _ _ _ _ w.best-is w.least-is (best_old ws i _ _ (elim w.else-w.branch [
-        | else-w-via-then-w+else-w-least v ↦ (λ x. v.if-w-least.false)
-        | else-w-via-else-w v ↦ (λ x. absurd (omega (arith, v.if-w.false)))
-      ]) small c.loop-job.invariant)
-    ]
+    let windows = YieldsList-at c.enumerate.ensures.source (YieldsList-from_slice ws cc) in
+    let pick = picked (λ (x : ℕ × Bor Window). (x.0, x.1.now)) _ _ (λ x k q h. search (rules, tests)) c.min_by_key.result c.min_by_key.ensures.ran (YieldsList-from_filter _ wide (YieldsList-at c.filter.ensures.source (YieldsList-from_enumerate windows (cc))) c.filter.ensures.closure (λ x b q k. search (rules, tests))) in
+    let e : c.map.result ≡ option_map (λ (x : ℕ × Bor Window). x.0) c.min_by_key.result = search rules in
+    e ∙ number_chosen ws _ _ (pick ∙ walk_chooses 0 ws)
 
-pub returns : goal.returns
-returns c =
-    let law = best_of_all c.args.windows.now c.loop-job.job c.loop-job.best c.loop-job.least (omega arith) c.loop-job.invariant in
-    record { choice = one_choice _ _ _ law (narrowest_chooses c.args.windows.now); chooses = law }
+pub returns-clause-choice : goal.returns-clause-choice
+returns-clause-choice c = choice c
+
+pub returns-clause-chooses : goal.returns-clause-chooses
+returns-clause-chooses c = subst (Chooses c.args.windows.now) (sym (choice c)) (narrowest_chooses c.args.windows.now)
