@@ -1,5 +1,5 @@
 -- What the call answers, and what the buffer then has, by what planning the slip tells.
-use Rattle.std.specs.Prelude.{List, ℕ, ◌+◌, ◌*◌, ◌≤◌, ◌<◌, length, get_or}
+use Rattle.std.specs.Prelude.{List, ℕ, ◌+◌, ◌*◌, ◌≤◌, ◌<◌, length, slice_index}
 use Rattle.sheet.specs.Refusals.{refusal_number}
 use Rattle.slip.specs.declared.fault.Fault.{Fault}
 use Rattle.slip.specs.Faults.{fault_number, fault_line, fault_inside, last_line}
@@ -35,7 +35,7 @@ buffer_after (planned e x m) buffer = buffer_of_state x buffer
 -- the starts of a timetable that was found fit into the buffer, and each into two bytes
 abbrev pub Writable : State → List ℕ → Type 0
 Writable (opened p) buffer = Unit {0}
-Writable (found p t) buffer = (2 * length t ≤ length buffer) × ((k : ℕ) → k < length t → get_or t k 0 < 65536)
+Writable (found p t) buffer = (2 * length t ≤ length buffer) × ((k : ℕ) → k < length t → slice_index t k < 65536)
 Writable impossible buffer = Unit {0}
 
 -- a fault's line leaves room for the three figures in one number

@@ -1,5 +1,5 @@
 // The one function that C programs call, through the crate c_api_c.
-ghost use Rattle.std.specs.Prelude.{◌≡◌, ℕ, ◌*◌, ◌/◌, ◌≤◌, ◌<◌, length, get_or};
+ghost use Rattle.std.specs.Prelude.{◌≡◌, ℕ, ◌*◌, ◌/◌, ◌≤◌, ◌<◌, length};
 ghost use Rattle.slip.specs.Faults.{fault_line, last_line};
 ghost use Rattle.planner.specs.States.{state_of};
 ghost use Rattle.house.specs.Piles.{house_cut};
