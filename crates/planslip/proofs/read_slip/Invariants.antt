@@ -1,9 +1,0 @@
--- The buffer is never overfilled, and each turn fills some of it.
-use Rattle.std.proofs.Common.{◌-◌, ◌≤◌, length}
-use Rattle.planslip.proofs.read_slip.Given as goal
-
-abbrev pub invariant-loop-filled : goal.invariant-loop-filled
-invariant-loop-filled l = l.filled ≤ length l.initial.buffer
-
-abbrev pub decreases-loop-filled : goal.decreases-loop-filled
-decreases-loop-filled l = length l.initial.buffer - l.filled
