@@ -30,7 +30,7 @@ fn unplanned_answer(unplanned: Unplanned) -> u32
 {
     match unplanned {
         Unplanned::Faulty(fault) => fault_answer(fault),
-        Unplanned::Refused(refusal) => refusal.number(),
+        Unplanned::Refused(refusal) => refusal.into(),
     }
 }
 

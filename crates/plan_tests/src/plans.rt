@@ -2,7 +2,6 @@
 use crate::example::EXAMPLE;
 use house::planning::{plan, plan_within};
 use report::reported::Unplanned;
-use search::outcome::Outcome;
 use std::test::Fail;
 
 /// Slips with looks and room for starts; the number, line and inside of what is wrong, with zeros for a refusal.
@@ -21,7 +20,7 @@ static UNPLANNED: [(&str, u32, usize, u32, usize, u32); 8] = [
 fn figures(unplanned: Unplanned) -> (u32, usize, u32) {
     match unplanned {
         Unplanned::Faulty(fault) => (fault.number(), fault.line(), fault.inside()),
-        Unplanned::Refused(refusal) => (refusal.number(), 0, 0),
+        Unplanned::Refused(refusal) => (u32::from(refusal), 0, 0),
     }
 }
 
@@ -30,7 +29,7 @@ fn the_example_is_planned(rt: HostRuntime) -> Result<(), Fail> {
     let Ok(report) = plan(EXAMPLE.as_bytes(), 100_000) else {
         return Err(Fail::new("not planned"));
     };
-    assert_eq!(rt; report.outcome(), Outcome::Found);
+    assert_eq!(rt; u32::from(report.outcome()), 1);
     assert_eq!(rt; report.looks(), 1);
     assert_eq!(rt; report.jobs().len(), 2);
     let Some(starts) = report.timetable() else {
@@ -45,7 +44,7 @@ fn the_room_may_be_just_enough(rt: HostRuntime) -> Result<(), Fail> {
     let Ok(report) = plan_within(EXAMPLE.as_bytes(), 1, 2) else {
         return Err(Fail::new("not planned"));
     };
-    assert_eq!(rt; report.outcome(), Outcome::Found);
+    assert_eq!(rt; u32::from(report.outcome()), 1);
     Ok(())
 }
 

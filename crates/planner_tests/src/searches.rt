@@ -5,42 +5,41 @@ use house::pile::{HOUSE_PILE, HousePile};
 use planner::draft::Draft;
 use planner::state::Search;
 use rule::narrowing::Rule;
-use search::outcome::Outcome;
 use sheet::refusal::Refusal;
 use std::process::Abort;
 use std::test::Fail;
 
-/// An advance: the looks granted, and the outcome and the looks made, or the refusal.
-type Advance = (u32, Result<(Outcome, u32), Refusal>);
-
-/// A grant that is out of range.
-const REFUSED: Result<(Outcome, u32), Refusal> = Err(Refusal::LooksOutOfRange);
+/// An advance: the looks granted, the number of its outcome or refusal, and the looks made.
+type Advance = (u32, u32, u32);
 
 /// One look at a time, and grants that are out of range before and after it is settled.
 static LOOK_BY_LOOK: [Advance; 8] = [
-    (0, REFUSED),
-    (1, Ok((Outcome::Open, 1))),
-    (1, Ok((Outcome::Open, 1))),
-    (1_000_001, REFUSED),
-    (1, Ok((Outcome::Found, 1))),
-    (0, REFUSED),
-    (1_000_001, REFUSED),
-    (1_000_000, Ok((Outcome::Found, 0))),
+    (0, 11, 0),
+    (1, 0, 1),
+    (1, 0, 1),
+    (1_000_001, 11, 0),
+    (1, 1, 1),
+    (0, 11, 0),
+    (1_000_001, 11, 0),
+    (1_000_000, 1, 0),
 ];
 
 /// Both parts of a window are looked at.
-static BOTH_PARTS: [Advance; 4] = [
-    (2, Ok((Outcome::Open, 2))),
-    (9, Ok((Outcome::Impossible, 1))),
-    (0, REFUSED),
-    (9, Ok((Outcome::Impossible, 0))),
-];
+static BOTH_PARTS: [Advance; 4] = [(2, 0, 2), (9, 2, 1), (0, 11, 0), (9, 2, 0)];
 
 /// One more look than a path has places.
-static FULL_PATH: [Advance; 2] = [
-    (768, Ok((Outcome::Open, 768))),
-    (1, Ok((Outcome::Found, 1))),
-];
+static FULL_PATH: [Advance; 2] = [(768, 0, 768), (1, 1, 1)];
+
+/// The advance answers so.
+fn check_advance<P: Rule>(rt: &impl Abort, search: &mut Search<P>, advance: Advance) {
+    let (looks, number, made) = advance;
+    let answer = match search.advance(looks) {
+        Ok((outcome, made)) => (u32::from(outcome), made),
+        Err(refusal) => (u32::from(refusal), 0),
+    };
+    assert_eq!(rt; answer.0, number, "outcome");
+    assert_eq!(rt; answer.1, made, "looks made");
+}
 
 /// The jobs have these starts, or where there are none no timetable was found.
 fn check_starts<P>(rt: &impl Abort, search: &Search<P>, jobs: u32, starts: &[u32]) {
@@ -61,8 +60,8 @@ fn check_search<P: Rule + Drop>(
     let jobs = draft.sheet().jobs().len() as u32;
     let mut search = draft.close();
     check_starts(rt, &search, jobs, &[]);
-    for (looks, answer) in advances {
-        assert_eq!(rt; search.advance(*looks), *answer, "{looks}");
+    for advance in advances {
+        check_advance(rt, &mut search, *advance);
     }
     check_starts(rt, &search, jobs, starts);
     search.reopen()
@@ -93,31 +92,16 @@ fn a_dead_first_part_alone_is_not_impossible(rt: HostRuntime) -> Result<(), Fail
 
 #[test]
 fn no_jobs_and_too_much_work(rt: HostRuntime) -> Result<(), Fail> {
-    check_house(
-        &rt,
-        Draft::new(HOUSE_PILE),
-        &[(9, Ok((Outcome::Found, 1)))],
-        &[],
-    );
-    check_house(
-        &rt,
-        three_jobs(HOUSE_PILE)?,
-        &[(9, Ok((Outcome::Impossible, 1)))],
-        &[],
-    );
+    check_house(&rt, Draft::new(HOUSE_PILE), &[(9, 1, 1)], &[]);
+    check_house(&rt, three_jobs(HOUSE_PILE)?, &[(9, 2, 1)], &[]);
     Ok(())
 }
 
 #[test]
 fn narrowed_windows_do_not_outlive_a_reopen(rt: HostRuntime) -> Result<(), Fail> {
-    let mut draft = check_house(
-        &rt,
-        two_jobs(HOUSE_PILE)?,
-        &[(100_000, Ok((Outcome::Found, 1)))],
-        &[0, 5],
-    );
+    let mut draft = check_house(&rt, two_jobs(HOUSE_PILE)?, &[(100_000, 1, 1)], &[0, 5]);
     draft.move_job(1, 0, 20)?;
-    check_house(&rt, draft, &[(100_000, Ok((Outcome::Found, 8)))], &[0, 5]);
+    check_house(&rt, draft, &[(100_000, 1, 8)], &[0, 5]);
     Ok(())
 }
 

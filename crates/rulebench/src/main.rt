@@ -4,9 +4,7 @@
 use anyhow::{Context, anyhow};
 use disjunctive::rules::{EDGES, NOT_FIRST, PAIRS};
 use rule::narrowing::Rule;
-use rule::verdict::Verdict;
-use sheet::limits::MAX_JOBS;
-use sheet::records::Window;
+use search::entered::entered_windows;
 use sheet::table::Sheet;
 use std::env;
 
@@ -24,16 +22,8 @@ fn fill(sheet: &mut Sheet, jobs: u32) {
 fn call<R: Rule>(rule: &R, sheet: &Sheet, calls: u32) -> u32 {
     let mut alive: u32 = 0;
     for _ in 0..calls {
-        let mut store = [Window { lo: 0, hi: 0 }; MAX_JOBS];
-        let jobs = sheet.jobs();
-        for (place, job) in store.iter_mut().zip(jobs) {
-            *place = Window {
-                lo: job.release,
-                hi: job.due.saturating_sub(job.duration),
-            };
-        }
-        let count = jobs.len().min(MAX_JOBS);
-        if let Ok(Verdict::Alive) = rule.narrow(sheet, &mut store[0..count]) {
+        let mut windows = entered_windows(sheet);
+        if let Ok(Ok(())) = rule.narrow(sheet, windows.as_mut_slice()) {
             alive = alive.saturating_add(1);
         }
     }
