@@ -35,9 +35,6 @@ module _ {P : Type 0} (s : Search P) where
     pub narrowed_formed : Formed (length (entries_of s).jobs) ws
     narrowed_formed = standstill_formed laws _ ws path_formed still
 
-    pub narrowed_fine : all_fine ws ≡ true
-    narrowed_fine = (and_parts _ _ (formed_test ws narrowed_formed)).1
-
     -- the decision on a job that is chosen lengthens a path that grew
     longer_grown : (k : ℕ) → Narrowest ws k → Grown (entered_windows (entries_of s)) (decision_on k (window ws k) ∷ path_in s)
     longer_grown k x =

@@ -4,16 +4,13 @@ use Rattle.sheet.proofs.Soundness.{sheet_sound}
 use Rattle.rule.specs.Laws.{Lawful}
 use Rattle.planner.specs.declared.state.Search.{Search}
 use Rattle.planner.specs.States.{entries_of, path_in, admits_in, cut_in}
-use Rattle.planner.proofs.Narrowed.{narrowed_fine, narrowed_formed, room_left, pushed_grown}
+use Rattle.planner.proofs.Narrowed.{narrowed_formed, room_left, pushed_grown}
 use Rattle.planner.proofs.Reading.{open_not_impossible, branched_none}
 use Rattle.planner.proofs.state.Search.branch.Given as given
 use Rattle.planner.proofs.state.Search.branch.Goals as goal
 
 lawful : (g : given.Over) (s : Search g.row.P.Denot) → Lawful (length (entries_of s).jobs) (admits_in g.P.Rule.admits s) (cut_in g.P.Rule.cut s)
 lawful g s = g.met.P.Rule.lawful s.draft.pile.0 (entries_of s) (sheet_sound s.draft.sheet)
-
-pub narrowest-requires : goal.narrowest-requires
-narrowest-requires g c = let s = c.args.self.now in narrowed_fine s (lawful g s) c.args.windows.now c.requires.narrowed
 
 pub push-requires : goal.push-requires
 push-requires g c =
