@@ -1,6 +1,5 @@
 -- A kernel, run over the stations.
-use Rattle.std.proofs.Common.{◌≡◌, ℕ, zero, suc, ◌+◌, ◌-◌, ◌<◌, ◌≤◌, Bool, true, false, List, map, length, get_or, take, sym, refl, ap, ◌∙◌, subst, ⊎_elim, add-one, arith}
-use Rattle.std.specs.List.{AllByRecursion}
+use Rattle.std.proofs.Common.{◌≡◌, ℕ, zero, suc, ◌+◌, ◌-◌, ◌<◌, ◌≤◌, Bool, true, false, List, All, map, length, get_or, sym, refl, ap, ◌∙◌, subst, ⊎_elim, add-one, arith}
 use Rattle.std.proofs.lemmas.Bool.{or_left, or_right, or_from, cases_eq}
 use Rattle.sheet.specs.declared.records.Job.{Job}
 use Rattle.sheet.specs.declared.records.Window.{Window}
@@ -48,8 +47,8 @@ filled_more figure js ws vs us x t a b k h l =
     (λ (y : (job js k).station ≡ x → ⊥). b k y ∙ t k h (omega arith))
     (cases_eq (job js k).station x)
 
-pub raised_as : (figure : Task → List Task → ℕ) (L V : List Task) → L ≡ V → (out : List ℕ) → AllByRecursion (λ t. get_or out t.job 0 ≡ figure t L) L → AllByRecursion (λ t. get_or out t.job 0 ≡ figure t V) V
-raised_as figure L V e out a = subst (λ (W : List Task). AllByRecursion (λ t. get_or out t.job 0 ≡ figure t W) W) e a
+pub raised_as : (figure : Task → List Task → ℕ) (L V : List Task) → L ≡ V → (out : List ℕ) → All (λ t. get_or out t.job 0 ≡ figure t L) L → All (λ t. get_or out t.job 0 ≡ figure t V) V
+raised_as figure L V e out a = subst (λ (W : List Task). All (λ t. get_or out t.job 0 ≡ figure t W) W) e a
 
 -- how far the stations have been gone through
 pub record Through (o : List Task → Bool) (e : Task → List Task → ℕ) (js : List Job) (ws : List Window) (lows backs : List ℕ) (x : ℕ) : Type 0 where

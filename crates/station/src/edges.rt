@@ -25,6 +25,7 @@ fn raise_by_later(tasks: &[Task], lows: &mut [u32], bound: u32) -> (u32, u32)
 {
     let mut work: u32 = 0;
     let mut completion: u32 = 0;
+    // By places: after a `zip` with `lows.iter_mut()` a proof knows no element of `lows`.
     for k in (0..tasks.len()).rev() {
         let t = tasks[k];
         if t.end <= bound {
@@ -47,6 +48,7 @@ fn raise_by_earlier(tasks: &[Task], lows: &mut [u32], bound: u32, work: u32, com
 {
     let mut rest = work;
     let mut peak: u32 = 0;
+    // By places: after a `zip` with `lows.iter_mut()` a proof knows no element of `lows`.
     for (k, t) in tasks.iter().enumerate() {
         if t.end <= bound {
             peak = peak.max(t.lo + rest);
