@@ -35,6 +35,9 @@ impl<'a> Board<'a> {
         ensures other_backs { (k : ℕ) → ((job self.now.jobs.now k).station ≡ station → ⊥) → slice_index starts.new.backs k ≡ slice_index starts.old.backs k }
     {
         self.gather(station, tasks);
+        if tasks.is_empty() {
+            return Ok(());
+        }
         raise_by_job::<K>(tasks, &mut starts.lows)?;
         self.gather(station, tasks);
         let mirrored = tasks.as_mut_slice();

@@ -1,17 +1,32 @@
 -- What is left to show of `raise_station`.
 use Rattle.std.proofs.Common.{◌≡◌, ◌<◌, All, List, map, length, get_or, sym, ap, ◌∙◌, subst, rules, arith}
 use Rattle.std.proofs.ByRecursion.{All-map}
+use Rattle.std.proofs.lemmas.Bool.{eqb-true}
 use Rattle.std.proofs.lemmas.Result.{on_ok_weaker}
 use Rattle.rule.specs.Forming.{formed_fact}
 use Rattle.station.specs.declared.task.Task.{Task}
 use Rattle.station.specs.Tasks.{Fit, Formed}
 use Rattle.station.specs.Mirror.{mirror}
-use Rattle.station.specs.Members.{all_places, in_map, in_places}
+use Rattle.station.specs.Members.{In, all_places, at_in, in_map, in_places}
 use Rattle.station.proofs.Reversing.{formed_mirror}
 use Rattle.disjunctive.specs.Gathering.{tasks_at}
 use Rattle.disjunctive.specs.Gathered.{tasks_formed, tasks_numbered, tasks_others, task_in}
 use Rattle.disjunctive.proofs.Running.{AtStation, back_of, raised_as}
 use Rattle.disjunctive.proofs.board.Board.raise_station.Goals as goal
+
+-- no job is at a station that has no task
+nobody : (U : List Task) (t : Task) → In t U → length U ≡ 0 → ⊥
+nobody U t m e = let place = at_in m in omega (arith, place.1)
+
+pub returns-then-is_empty-clause-lows : goal.returns-then-is_empty-clause-lows
+returns-then-is_empty-clause-lows g c k h at =
+    let b = c.args.self.now in
+    absurd (nobody _ _ (task_in b.jobs.now b.windows.now b.entered b.few (formed_fact b.windows.now b.formed) c.args.station k h at) (ap length (sym c.gather.ensures) ∙ eqb-true _ _ (sym c.is_empty.ensures ∙ c.if-is_empty.true)))
+
+pub returns-then-is_empty-clause-backs : goal.returns-then-is_empty-clause-backs
+returns-then-is_empty-clause-backs g c k h at =
+    let b = c.args.self.now in
+    absurd (nobody _ _ (task_in b.jobs.now b.windows.now b.entered b.few (formed_fact b.windows.now b.formed) c.args.station k h at) (ap length (sym c.gather.ensures) ∙ eqb-true _ _ (sym c.is_empty.ensures ∙ c.if-is_empty.true)))
 
 pub raise_by_job-requires-clause-formed : goal.raise_by_job-requires-clause-formed
 raise_by_job-requires-clause-formed g c =
