@@ -22,7 +22,7 @@ pub trait Kernel {
 
     ghost limit: { Task → List Task → ℕ };
 
-    // Two slices and not one struct of both: each pass would then have to promise that its tasks stay, which `&[Task]` says by its type.
+    // Two slices with clauses, and no struct: of both, each pass would have to promise that its tasks stay; of the tasks alone, each clause only grows by `self.now.`.
     /// The new first starts, by the places that the tasks have afterwards.
     fn raise(tasks: &mut [Task], lows: &mut [u32]) -> Result<(), Overload>
         requires formed { Formed tasks.old }
