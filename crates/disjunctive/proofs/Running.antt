@@ -1,7 +1,5 @@
 -- A kernel, run over the stations.
-use Rattle.std.proofs.Common.{◌≡◌, ℕ, zero, suc, ◌+◌, ◌-◌, ◌<◌, ◌≤◌, Bool, true, false, List, map, length, get_or, take, sym, refl, ap, ◌∙◌, subst, ⊎_elim, add-one, arith}
-use Rattle.std.specs.List.{AllByRecursion}
-use Rattle.std.proofs.lemmas.Bool.{or_left, or_right, or_from, cases_eq}
+use Rattle.std.proofs.Common.{◌≡◌, ℕ, zero, suc, ◌+◌, ◌-◌, ◌<◌, ◌≤◌, Bool, false, List, All, map, length, get_or, refl, ap, subst, arith}
 use Rattle.sheet.specs.declared.records.Job.{Job}
 use Rattle.sheet.specs.declared.records.Window.{Window}
 use Rattle.sheet.specs.Entries.{job}
@@ -19,14 +17,6 @@ use Rattle.disjunctive.specs.Gathered.{task_in, tasks_formed}
 use Rattle.rule.specs.Windows.{Formed as WellFormed}
 use Rattle.station.specs.Kernels.{Lawful as KernelLawful}
 
-pub below_stop : (f : ℕ → Bool) (n x : ℕ) → x < n → f x ≡ true → any_below f n ≡ true
-below_stop f zero x h e = absurd (omega arith)
-below_stop f (suc n) x h e =
-    ⊎_elim
-    (λ (y : x ≡ n). or_left _ _ (subst (λ (k : ℕ). f k ≡ true) y e))
-    (λ (y : x ≡ n → ⊥). or_right _ _ (below_stop f n x (omega arith) e))
-    (cases_eq x n)
-
 -- values by job number, of all jobs at station x
 abbrev pub AtStation : (Task → List Task → ℕ) → List Job → List Window → ℕ → List ℕ → Type 0
 AtStation figure js ws x vs = (k : ℕ) → k < length ws → (job js k).station ≡ x → get_or vs k 0 ≡ figure (task js ws k) (tasks_at js ws x)
@@ -39,37 +29,14 @@ back_of e i U = e (mirror i) (map mirror U)
 abbrev Filled : (Task → List Task → ℕ) → List Job → List Window → List ℕ → ℕ → Type 0
 Filled figure js ws vs x = (k : ℕ) → k < length ws → (job js k).station < x → get_or vs k 0 ≡ among figure js ws k
 
-filled_more : (figure : Task → List Task → ℕ) (js : List Job) (ws : List Window) (vs us : List ℕ) (x : ℕ) → Filled figure js ws vs x →
-    AtStation figure js ws x us →
-    ((k : ℕ) → ((job js k).station ≡ x → ⊥) → get_or us k 0 ≡ get_or vs k 0) → Filled figure js ws us (x + 1)
-filled_more figure js ws vs us x t a b k h l =
-    ⊎_elim
-    (λ (y : (job js k).station ≡ x). subst (λ (z : ℕ). get_or us k 0 ≡ figure (task js ws k) (tasks_at js ws z)) (sym y) (a k h y))
-    (λ (y : (job js k).station ≡ x → ⊥). b k y ∙ t k h (omega arith))
-    (cases_eq (job js k).station x)
-
-pub raised_as : (figure : Task → List Task → ℕ) (L V : List Task) → L ≡ V → (out : List ℕ) → AllByRecursion (λ t. get_or out t.job 0 ≡ figure t L) L → AllByRecursion (λ t. get_or out t.job 0 ≡ figure t V) V
-raised_as figure L V e out a = subst (λ (W : List Task). AllByRecursion (λ t. get_or out t.job 0 ≡ figure t W) W) e a
+pub raised_as : (figure : Task → List Task → ℕ) (L V : List Task) → L ≡ V → (out : List ℕ) → All (λ t. get_or out t.job 0 ≡ figure t L) L → All (λ t. get_or out t.job 0 ≡ figure t V) V
+raised_as figure L V e out a = subst (λ (W : List Task). All (λ t. get_or out t.job 0 ≡ figure t W) W) e a
 
 -- how far the stations have been gone through
 pub record Through (o : List Task → Bool) (e : Task → List Task → ℕ) (js : List Job) (ws : List Window) (lows backs : List ℕ) (x : ℕ) : Type 0 where
   pub calm : any_below (λ x. o (tasks_at js ws x)) x ≡ false
   pub forth : Filled e js ws lows x
   pub back : Filled (back_of e) js ws backs x
-
-pub through_none : (o : List Task → Bool) (e : Task → List Task → ℕ) (js : List Job) (ws : List Window) (lows backs : List ℕ) → Through o e js ws lows backs 0
-through_none o e js ws lows backs = record { calm = refl; forth = λ k h l. absurd (omega arith); back = λ k h l. absurd (omega arith) }
-
-pub through_more : (o : List Task → Bool) (e : Task → List Task → ℕ) (js : List Job) (ws : List Window) (ls bs ls' bs' : List ℕ) (x : ℕ) → Through o e js ws ls bs x → o (tasks_at js ws x) ≡ false →
-    AtStation e js ws x ls' →
-    ((k : ℕ) → ((job js k).station ≡ x → ⊥) → get_or ls' k 0 ≡ get_or ls k 0) →
-    AtStation (back_of e) js ws x bs' →
-    ((k : ℕ) → ((job js k).station ≡ x → ⊥) → get_or bs' k 0 ≡ get_or bs k 0) → Through o e js ws ls' bs' (x + 1)
-through_more o e js ws ls bs ls' bs' x t c a b d f = record {
-  calm = rw add-one (or_from _ _ c t.calm);
-  forth = filled_more e js ws ls ls' x t.forth a b;
-  back = filled_more (back_of e) js ws bs bs' x t.back d f;
-}
 
 -- the limits out of the first starts as time runs back
 pub limit_is : (o : List Task → Bool) (e l : Task → List Task → ℕ) → KernelLawful o e l → (js : List Job) (ws : List Window) → AllEntered js → length js ≤ most_jobs → WellFormed (length js) ws → (k : ℕ) → k < length ws →

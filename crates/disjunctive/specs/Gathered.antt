@@ -1,8 +1,8 @@
 -- The tasks of a station.
-use Rattle.std.specs.Prelude.{◌≡◌, ℕ, zero, suc, ◌+◌, ◌<◌, ◌≤◌, List, [], ◌∷◌, ◌++◌, length, take, ◌==◌, ◌≢◌, slice_index, slice_set, refl}
-use Rattle.std.proofs.Common.{sym, ap, subst, ◌∙◌, ⊎_elim, arith, add-one, length-set}
+use Rattle.std.specs.Prelude.{◌≡◌, ℕ, zero, suc, ◌<◌, ◌≤◌, List, [], ◌∷◌, ◌++◌, length, ◌==◌, ◌≢◌, slice_index}
+use Rattle.std.proofs.Common.{sym, ap, subst, ◌∙◌, ⊎_elim, arith}
 use Rattle.std.specs.List.{AllByRecursion}
-use Rattle.std.proofs.lemmas.List.{length_push, take_more_set}
+use Rattle.std.proofs.lemmas.List.{length_push}
 use Rattle.std.proofs.ByRecursion.{All-push}
 use Rattle.std.proofs.lemmas.Bool.{cond-true, cond-false, cond_both, cases_eq, eq-eqb, ne_eqb}
 use Rattle.sheet.specs.declared.records.Job.{Job}
@@ -12,7 +12,6 @@ use Rattle.sheet.specs.Limits.{most_jobs}
 use Rattle.sheet.specs.Sound.{AllEntered}
 use Rattle.rule.specs.Windows.{Inside}
 use Rattle.station.specs.declared.task.Task.{Task}
-use Rattle.station.specs.Limits.{most_tasks}
 use Rattle.station.specs.Tasks.{Pairwise, Fit, Formed}
 use Rattle.station.specs.Kernels.{Apart, Placed}
 use Rattle.station.specs.Members.{In, here, in_left, in_right}

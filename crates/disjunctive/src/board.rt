@@ -22,11 +22,11 @@ pub struct Board<'a> {
 }
 
 impl<'a> Board<'a> {
-    /// The jobs at a station with their windows, by number.
-    pub fn tasks_at(&self, station: u32) -> ArrayVec<Task, MOST_TASKS>
-        ensures { result.items ≡ tasks_at self.now.jobs.now self.now.windows.now station }
+    /// Makes `tasks` the jobs at a station with their windows, by number.
+    pub fn gather(&self, station: u32, tasks: &mut ArrayVec<Task, MOST_TASKS>)
+        ensures { tasks.new.items ≡ tasks_at self.now.jobs.now self.now.windows.now station }
     {
-        let mut tasks = ArrayVec::new();
+        tasks.clear();
         for (number, window) in self.windows.iter().enumerate() {
             let job = self.jobs[number];
             if job.station == station {
@@ -38,6 +38,5 @@ impl<'a> Board<'a> {
                 });
             }
         }
-        tasks
     }
 }

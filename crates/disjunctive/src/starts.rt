@@ -55,8 +55,9 @@ impl Starts {
             return Err(Dead);
         }
         for (number, window) in windows.iter_mut().enumerate() {
+            let lo = self.lows[number];
             let hi = self.limit(number, jobs[number]) - 1;
-            *window = Window { lo: self.lows[number], hi };
+            *window = Window { lo, hi };
         }
         Ok(())
     }

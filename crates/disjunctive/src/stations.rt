@@ -10,26 +10,37 @@ ghost use Rattle.disjunctive.specs.StationCuts.{any_below, stations, among, stat
 
 use crate::board::Board;
 use crate::starts::Starts;
+use arrayvec::ArrayVec;
 use rule::verdict::{Dead, Verdict};
 use sheet::limits::{LAST_STATION, MAX_JOBS};
 use sheet::records::Window;
 use sheet::table::Sheet;
 use station::kernel::{Kernel, Overload, raise_by_job};
+use station::limits::MOST_TASKS;
 use station::mirror::reverse_time;
+use station::task::Task;
 
 impl<'a> Board<'a> {
-    // The new first starts of the jobs at a station, and those as time runs back.
-    fn raise_station<K: Kernel>(&self, station: u32, starts: &mut Starts) -> Result<(), Overload>
+    // The new first starts of the jobs at a station, and those as time runs back. The tasks are worked on in `tasks`.
+    fn raise_station<K: Kernel>(
+        &self,
+        station: u32,
+        tasks: &mut ArrayVec<Task, MOST_TASKS>,
+        starts: &mut Starts,
+    ) -> Result<(), Overload>
         ensures load { is_err result ≡ K.Kernel.overloaded (tasks_at self.now.jobs.now self.now.windows.now station) }
         ensures lows { OnOk result ((k : ℕ) → k < length self.now.windows.now → (job self.now.jobs.now k).station ≡ station → slice_index starts.new.lows k ≡ K.Kernel.earliest (task self.now.jobs.now self.now.windows.now k) (tasks_at self.now.jobs.now self.now.windows.now station)) }
         ensures other_lows { (k : ℕ) → ((job self.now.jobs.now k).station ≡ station → ⊥) → slice_index starts.new.lows k ≡ slice_index starts.old.lows k }
         ensures backs { OnOk result ((k : ℕ) → k < length self.now.windows.now → (job self.now.jobs.now k).station ≡ station → slice_index starts.new.backs k ≡ K.Kernel.earliest (mirror (task self.now.jobs.now self.now.windows.now k)) (map mirror (tasks_at self.now.jobs.now self.now.windows.now station))) }
         ensures other_backs { (k : ℕ) → ((job self.now.jobs.now k).station ≡ station → ⊥) → slice_index starts.new.backs k ≡ slice_index starts.old.backs k }
     {
-        let mut tasks = self.tasks_at(station);
-        raise_by_job::<K>(&mut tasks, &mut starts.lows)?;
-        let mut again = self.tasks_at(station);
-        let mirrored = again.as_mut_slice();
+        self.gather(station, tasks);
+        if tasks.is_empty() {
+            return Ok(());
+        }
+        raise_by_job::<K>(tasks, &mut starts.lows)?;
+        self.gather(station, tasks);
+        let mirrored = tasks.as_mut_slice();
         reverse_time(mirrored);
         raise_by_job::<K>(mirrored, &mut starts.backs)
     }
@@ -44,8 +55,9 @@ impl<'a> Board<'a> {
             lows: [0; MAX_JOBS],
             backs: [0; MAX_JOBS],
         };
+        let mut tasks = ArrayVec::new();
         for station in 0..LAST_STATION + 1 {
-            self.raise_station::<K>(station, &mut starts)?;
+            self.raise_station::<K>(station, &mut tasks, &mut starts)?;
         }
         Ok(starts)
     }

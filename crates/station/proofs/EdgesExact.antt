@@ -1,12 +1,12 @@
 -- All passes of edge finding together give what the definition over all sets gives.
 use Rattle.std.proofs.Common.{◌≡◌, ℕ, zero, suc, ◌+◌, ◌<◌, ◌≤◌, max, Bool, true, false, cond, not, eqb, ltb, List, [], ◌∷◌, length, drop, filter, sym, refl, ap, ◌∙◌, subst, ⊎_elim, arith, drop-cons}
-use Rattle.std.specs.List.{AllByRecursion}
+use Rattle.std.specs.List.{AllByRecursion, list_any}
 use Rattle.std.proofs.ByRecursion.{All-weaker}
 use Rattle.std.proofs.lemmas.Bool.{both_ways, cases_Bool, cond-true, cond-false, cond_both, or_cases, cases_lt, cases_eq, and_from, and_parts, and_left, and_right, leb-false, lt-leb, ltb-true, ltb-false, lt-ltb, le-ltb, eqb-true, not-false}
 use Rattle.station.specs.declared.task.Task.{Task}
 use Rattle.station.specs.Edges.{earliest_completion, edges_earliest, edges_overloaded, ends_last, overloads}
 use Rattle.station.specs.EdgesPasses.{completion_before, completion_by, ends_by, passes_end, raised_by_all, raised_by_both, raised_by_earlier, raised_by_later, work_of}
-use Rattle.station.specs.Sets.{any, est, lct, nonempty, others, sublists, work}
+use Rattle.station.specs.Sets.{est, lct, nonempty, others, sublists, work}
 use Rattle.station.specs.Tasks.{Fit, Formed, at, no_task}
 use Rattle.station.specs.Bounds.{any_in, any_none, any_not, at_least_ge, at_least_sublist, at_least_sublists, est_first, est_rest, est_sublist, greatest_in, lct_sublist, least_ge}
 use Rattle.station.proofs.EdgesFigures.{FirstOf, Reached, Rising, before_by, before_completion, before_from, by_inner, completion_from, completion_ge, first_or_none, inner, inner_by}
@@ -59,19 +59,19 @@ module _ (L U : List Task) (same : Same L U) (formed : Formed L) where
       any_in overloads (in_sublists (sublist_kept (inner a b) L)) (and_from _ _ e (lt-ltb _ _ (omega (arith, r.top, work_kept (inner a b) L, either a b, kept_least (λ t. t.lo) a b L e, kept_lct (λ t. t.lo) a b L)))))
       (completion_from b U s)
 
-  pub overload_exact : Rising U → any (passes_end U) U ≡ edges_overloaded L
+  pub overload_exact : Rising U → list_any (passes_end U) U ≡ edges_overloaded L
   overload_exact s =
       ⊎_elim
-      (λ (e : any (passes_end U) U ≡ true). e ∙ sym (found U (λ t m. m) e))
-      (λ (e : any (passes_end U) U ≡ false). e ∙ sym (not_overloaded (λ t m. ltb-false _ _ (any_not (passes_end U) e m))))
-      (cases_Bool (any (passes_end U) U))
+      (λ (e : list_any (passes_end U) U ≡ true). e ∙ sym (found U (λ t m. m) e))
+      (λ (e : list_any (passes_end U) U ≡ false). e ∙ sym (not_overloaded (λ t m. ltb-false _ _ (any_not (passes_end U) e m))))
+      (cases_Bool (list_any (passes_end U) U))
     where
-      found : (V : List Task) → ((t : Task) → In t V → In t U) → any (passes_end U) V ≡ true → edges_overloaded L ≡ true
+      found : (V : List Task) → ((t : Task) → In t V → In t U) → list_any (passes_end U) V ≡ true → edges_overloaded L ≡ true
       found [] f e = absurd (both_ways false refl e)
       found (t ∷ V) f e =
           ⊎_elim
           (λ (y : passes_end U t ≡ true). is_overloaded s t.end (ltb-true _ _ y))
-          (λ (y : any (passes_end U) V ≡ true). found V (λ t m. f t (there m)) y)
+          (λ (y : list_any (passes_end U) V ≡ true). found V (λ t m. f t (there m)) y)
           (or_cases _ _ e)
 
   -- an interval that meets the condition, and one within it, bound i
@@ -272,5 +272,5 @@ module _ (L U : List Task) (same : Same L U) (formed : Formed L) (rising : Risin
       (λ (bi : i.end ≤ (at U e).end). absurd (cramped (at U e).end (room (at U e) (in_at U e p.1)) bi S pS c.0 (omega arith) (omega arith)))
       (cases_lt (at U e).end i.end)))
 
-  pub passes_exact : any (passes_end U) U ≡ false → raised_by_all U q (length U) ≡ edges_earliest (at U q) L
+  pub passes_exact : list_any (passes_end U) U ≡ false → raised_by_all U q (length U) ≡ edges_earliest (at U q) L
   passes_exact r = omega (arith, passes_complete (λ t m. ltb-false _ _ (any_not (passes_end U) r m)), passes_sound (length U))

@@ -1,10 +1,10 @@
 -- Bounds over many: each value is kept to, and the bound is the least or the greatest that keeps to them all.
 use Rattle.std.specs.Prelude.{◌≡◌, ℕ, ◌<◌, ◌≤◌, max, Bool, true, false, cond, List, [], ◌∷◌, ◌++◌, refl}
 use Rattle.std.proofs.Common.{sym, ap, subst, ◌∙◌, ⊎_elim, arith}
-use Rattle.std.specs.List.{AllByRecursion}
+use Rattle.std.specs.List.{AllByRecursion, list_any}
 use Rattle.std.proofs.lemmas.Bool.{both_ways, cases_Bool, cond-true, cond-false, cond_both, or_left, or_right, or_from, cases_lt}
 use Rattle.station.specs.declared.task.Task.{Task}
-use Rattle.station.specs.Sets.{any, at_least, at_most, est, greatest, lct, least, nonempty, sublists}
+use Rattle.station.specs.Sets.{at_least, at_most, est, greatest, lct, least, nonempty, sublists}
 use Rattle.station.specs.Members.{In, Sublist, all_from, all_sublists, here, in_sublist, in_sublists, skip, sublist_whole, there}
 
 module _ {X : Type 0} (f : X → Bool) (g : X → ℕ) (x : ℕ) where
@@ -72,15 +72,15 @@ at_most_start f g x y {a} {L} m t h k =
     let q : at_most f g y L ≤ at_most f g x L = one y x k h in
     omega arith
 
-pub any_in : {X : Type 0} (f : X → Bool) {a : X} {L : List X} → In a L → f a ≡ true → any f L ≡ true
+pub any_in : {X : Type 0} (f : X → Bool) {a : X} {L : List X} → In a L → f a ≡ true → list_any f L ≡ true
 any_in f here e = or_left _ _ e
 any_in f (there h) e = or_right _ _ (any_in f h e)
 
-pub any_none : {X : Type 0} (f : X → Bool) (L : List X) → AllByRecursion (λ a. f a ≡ false) L → any f L ≡ false
+pub any_none : {X : Type 0} (f : X → Bool) (L : List X) → AllByRecursion (λ a. f a ≡ false) L → list_any f L ≡ false
 any_none f [] h = refl
 any_none f (a ∷ L) h = or_from _ _ h.0 (any_none f L h.1)
 
-pub any_not : {X : Type 0} (f : X → Bool) {a : X} {L : List X} → any f L ≡ false → In a L → f a ≡ false
+pub any_not : {X : Type 0} (f : X → Bool) {a : X} {L : List X} → list_any f L ≡ false → In a L → f a ≡ false
 any_not f {a} {L} e m =
     ⊎_elim
     (λ (t : f a ≡ true). absurd (both_ways _ e (any_in f m t)))

@@ -1,16 +1,17 @@
 -- Edge finding at one station, over all sets S of its tasks: a task that has to end last, or to start first, does so.
 use Rattle.std.specs.Prelude.{ℕ, ◌+◌, ◌-◌, Bool, ◌&&◌, List, ◌∷◌, nat_lt}
+use Rattle.std.specs.List.{list_any}
 use Rattle.station.specs.declared.task.Task.{Task}
 use Rattle.station.specs.Limits.{horizon}
 use Rattle.station.specs.Tasks.{own_limit}
-use Rattle.station.specs.Sets.{sublists, nonempty, est, lct, work, any, at_least, at_most, others}
+use Rattle.station.specs.Sets.{sublists, nonempty, est, lct, work, at_least, at_most, others}
 
 -- p(S) > lct(S) − est(S)
 abbrev pub overloads : List Task → Bool
 overloads S = nonempty S && nat_lt (lct S) (est S + work S)
 
 abbrev pub edges_overloaded : List Task → Bool
-edges_overloaded U = any overloads (sublists U)
+edges_overloaded U = list_any overloads (sublists U)
 
 -- est(S+i) + p(S+i) > lct(S): i ends after all of S
 abbrev pub ends_last : Task → List Task → Bool

@@ -1,5 +1,5 @@
 -- Members and sublists of a list, and what is said of all of them.
-use Rattle.std.specs.Prelude.{◌≡◌, ℕ, zero, suc, ◌<◌, ◌≤◌, Bool, true, List, [], ◌∷◌, ◌++◌, map, length, drop, filter, refl}
+use Rattle.std.specs.Prelude.{◌≡◌, ℕ, zero, suc, ◌<◌, ◌≤◌, Bool, true, List, [], ◌∷◌, ◌++◌, map, length, drop, filter, All, refl}
 use Rattle.std.proofs.Common.{sym, subst, arith}
 use Rattle.std.specs.List.{AllByRecursion}
 use Rattle.std.proofs.ByRecursion.{All-append, All-map, All-get_or}
@@ -33,6 +33,14 @@ module _ {X : Type 0} where
   pub all_from : (P : X → Type 0) (L : List X) → ((a : X) → In a L → P a) → AllByRecursion P L
   all_from P [] f = tt
   all_from P (x ∷ L) f = (f x here, all_from P L (λ a h. f a (there h)))
+
+  -- the same by places
+  pub all_places : (P : X → Type 0) (L : List X) → AllByRecursion P L → All P L
+  all_places P L h k d l = All-get_or P L k d l h
+
+  pub in_places : (P : X → Type 0) {a : X} {L : List X} → In a L → All P L → P a
+  in_places P {a} here p = p 0 a (omega arith)
+  in_places P (there h) p = in_places P h (λ k d l. p (suc k) d (omega arith))
 
   pub all_sublist : (P : X → Type 0) {S L : List X} → Sublist S L → AllByRecursion P L → AllByRecursion P S
   all_sublist P none h = tt

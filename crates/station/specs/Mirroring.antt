@@ -1,8 +1,10 @@
 -- The limits are the earliest starts as time runs back.
 use Rattle.std.specs.Prelude.{◌≡◌, ℕ, ◌+◌, ◌-◌, ◌<◌, ◌≤◌, max, Bool, true, false, not, ◌&&◌, ◌||◌, List, [], ◌∷◌, ◌++◌, map, ◌==◌, nat_lt, refl}
 use Rattle.std.proofs.Common.{sym, ap, ◌∙◌, ⊎_elim, arith}
-use Rattle.std.specs.List.{AllByRecursion}
+use Rattle.std.specs.List.{AllByRecursion, list_any}
 use Rattle.std.proofs.ByRecursion.{all_kept_by}
+use Rattle.std.proofs.lemmas.List.{map-append}
+use Rattle.std.proofs.lemmas.Simd.{map-map}
 use Rattle.std.proofs.lemmas.Bool.{both_ways, cases_Bool, cond-true, cond-false, cases_lt, and_parts, and_left, lt-ltb, le-ltb}
 use Rattle.station.specs.declared.task.Task.{Task}
 use Rattle.station.specs.Edges.{earliest_completion, edges_earliest, edges_limit, edges_overloaded, ends_last, limit_before, overloads, starts_first}
@@ -10,30 +12,22 @@ use Rattle.station.specs.Limits.{horizon}
 use Rattle.station.specs.Mirror.{mirror}
 use Rattle.station.specs.NotFirst.{not_first, not_first_earliest, not_first_limit, not_last}
 use Rattle.station.specs.Pairs.{comes_after, pairs_earliest, pairs_limit}
-use Rattle.station.specs.Sets.{any, at_least, at_most, est, greatest, lct, least, nonempty, others, sublists, work}
+use Rattle.station.specs.Sets.{at_least, at_most, est, greatest, lct, least, nonempty, others, sublists, work}
 use Rattle.station.specs.Tasks.{Fit, ect, last_start, own_limit}
 use Rattle.station.specs.Bounds.{at_most_start}
 use Rattle.station.specs.Members.{In, all_from, all_in, all_sublist, all_sublists, in_sublists, sublist_whole}
-
-map-++ : {X Y : Type 0} (f : X → Y) (L M : List X) → map f (L ++ M) ≡ map f L ++ map f M
-map-++ f [] M = refl
-map-++ f (x ∷ L) M = ap (λ N. f x ∷ N) (map-++ f L M)
-
-map_map : {X Y Z : Type 0} (f : X → Y) (g : Y → Z) (L : List X) → map g (map f L) ≡ map (λ x. g (f x)) L
-map_map f g [] = refl
-map_map f g (x ∷ L) = ap (λ N. g (f x) ∷ N) (map_map f g L)
 
 sublists_map : {X Y : Type 0} (f : X → Y) (L : List X) → sublists (map f L) ≡ map (map f) (sublists L)
 sublists_map f [] = refl
 sublists_map f (x ∷ L) =
     let ih : sublists (map f L) ≡ map (map f) (sublists L) = sublists_map f L in
     ap (λ P. P ++ map (λ S. f x ∷ S) P) ih
-    ∙ ap (λ P. map (map f) (sublists L) ++ P) (map_map (map f) (λ S. f x ∷ S) (sublists L) ∙ sym (map_map (λ S. x ∷ S) (map f) (sublists L)))
-    ∙ sym (map-++ (map f) (sublists L) (map (λ S. x ∷ S) (sublists L)))
+    ∙ ap (λ P. map (map f) (sublists L) ++ P) (map-map (λ S. f x ∷ S) (map f) (sublists L) ∙ sym (map-map (map f) (λ S. x ∷ S) (sublists L)))
+    ∙ sym (map-append (map f) (sublists L) (map (λ S. x ∷ S) (sublists L)))
 
-any_map : {X Y : Type 0} (h : X → Y) (f : Y → Bool) (g : X → Bool) (L : List X) → AllByRecursion (λ x. f (h x) ≡ g x) L → any f (map h L) ≡ any g L
+any_map : {X Y : Type 0} (h : X → Y) (f : Y → Bool) (g : X → Bool) (L : List X) → AllByRecursion (λ x. f (h x) ≡ g x) L → list_any f (map h L) ≡ list_any g L
 any_map h f g [] a = refl
-any_map h f g (x ∷ L) a = ap (λ (b : Bool). b || any f (map h L)) a.0 ∙ ap (λ (b : Bool). g x || b) (any_map h f g L a.1)
+any_map h f g (x ∷ L) a = ap (λ (b : Bool). b || list_any f (map h L)) a.0 ∙ ap (λ (b : Bool). g x || b) (any_map h f g L a.1)
 
 others_map : (i : Task) (L : List Task) → others (mirror i) (map mirror L) ≡ map mirror (others i L)
 others_map i [] = refl
@@ -115,7 +109,7 @@ test_same S h a b c d f =
 module _ (U : List Task) (fit : AllByRecursion Fit U) where
   pub overloaded_mirrored : edges_overloaded (map mirror U) ≡ edges_overloaded U
   overloaded_mirrored =
-      ap (any overloads) (sublists_map mirror U) ∙
+      ap (list_any overloads) (sublists_map mirror U) ∙
       any_map (map mirror) overloads overloads (sublists U) (all_sublists U _ (λ S p. test_same S (all_sublist _ p fit) _ _ _ _ (λ r. ((λ k. omega (arith, r.est_is, r.lct_is, r.work_is, r.est_most, r.lct_most)), (λ k. omega (arith, r.est_is, r.lct_is, r.work_is, r.est_most, r.lct_most))))))
 
   module _ (i : Task) (m : In i U) where

@@ -1,5 +1,5 @@
 -- Sets of tasks, as lists, with their earliest start, latest completion and work.
-use Rattle.std.specs.Prelude.{ℕ, ◌+◌, min, max, Bool, true, false, cond, not, ◌||◌, List, [], ◌∷◌, ◌++◌, map, filter, ◌==◌}
+use Rattle.std.specs.Prelude.{ℕ, ◌+◌, min, max, Bool, true, false, cond, not, List, [], ◌∷◌, ◌++◌, map, filter, ◌==◌}
 use Rattle.station.specs.declared.task.Task.{Task}
 
 -- every part of a set, the empty one and the whole among them
@@ -42,11 +42,6 @@ work S = total (λ t. t.span) S
 -- the tasks of other jobs
 abbrev pub others : Task → List Task → List Task
 others i L = filter (λ t. not (t.job == i.job)) L
-
--- whether the test holds of one of them
-abbrev pub any : {X : Type 0} → (X → Bool) → List X → Bool
-any f [] = false
-any f (a ∷ L) = f a || any f L
 
 -- x, made at least the value of each of which the test holds
 abbrev pub at_least : {X : Type 0} → (X → Bool) → (X → ℕ) → ℕ → List X → ℕ

@@ -1,7 +1,7 @@
 // Edge finding.
 ghost use Rattle.std.specs.Prelude.{◌≡◌, ℕ, ◌<◌, length, nat_lt, slice_index, is_err, OnOk};
+ghost use Rattle.std.specs.List.{list_any};
 ghost use Rattle.station.specs.Tasks.{at, Formed};
-ghost use Rattle.station.specs.Sets.{any};
 ghost use Rattle.station.specs.Edges.{edges_overloaded, edges_earliest, edges_limit};
 ghost use Rattle.station.specs.EdgesPasses.{work_of, ends_by, completion_by, raised_by_later, raised_by_earlier, raised_by_both, raised_by_all, passes_end};
 ghost use Rattle.station.specs.Laws.{edges_lawful};
@@ -25,6 +25,7 @@ fn raise_by_later(tasks: &[Task], lows: &mut [u32], bound: u32) -> (u32, u32)
 {
     let mut work: u32 = 0;
     let mut completion: u32 = 0;
+    // By places: after a `zip` with `lows.iter_mut()` a proof knows no element of `lows`.
     for k in (0..tasks.len()).rev() {
         let t = tasks[k];
         if t.end <= bound {
@@ -47,6 +48,7 @@ fn raise_by_earlier(tasks: &[Task], lows: &mut [u32], bound: u32, work: u32, com
 {
     let mut rest = work;
     let mut peak: u32 = 0;
+    // By places: after a `zip` with `lows.iter_mut()` a proof knows no element of `lows`.
     for (k, t) in tasks.iter().enumerate() {
         if t.end <= bound {
             peak = peak.max(t.lo + rest);
@@ -77,7 +79,7 @@ fn raise_by_all(tasks: &[Task], lows: &mut [u32]) -> Result<(), Overload>
     requires formed { Formed tasks.now }
     requires len { length lows.old ≡ length tasks.now }
     requires starts { (q : ℕ) → q < length tasks.now → slice_index lows.old q ≡ (at tasks.now q).lo }
-    ensures load { is_err result ≡ any (passes_end tasks.now) tasks.now }
+    ensures load { is_err result ≡ list_any (passes_end tasks.now) tasks.now }
     ensures lows { OnOk result ((q : ℕ) → q < length tasks.now → slice_index lows.new q ≡ raised_by_all tasks.now q (length tasks.now)) }
 {
     for t in tasks {

@@ -1,6 +1,5 @@
 // What every kernel is, and the new first starts of a station's tasks by job number.
-ghost use Rattle.std.specs.Prelude.{◌≡◌, ℕ, ◌<◌, ◌≤◌, Bool, List, length, ◌≢◌, slice_index, is_err, OnOk, IsPermutation};
-ghost use Rattle.std.specs.List.{AllByRecursion};
+ghost use Rattle.std.specs.Prelude.{◌≡◌, ℕ, ◌<◌, ◌≤◌, Bool, List, length, ◌≢◌, slice_index, is_err, All, OnOk, IsPermutation};
 ghost use Rattle.station.specs.declared.task.Task.{Task};
 ghost use Rattle.station.specs.Limits.{most_tasks};
 ghost use Rattle.station.specs.Tasks.{at, Formed};
@@ -23,6 +22,7 @@ pub trait Kernel {
 
     ghost limit: { Task → List Task → ℕ };
 
+    // Two slices with clauses, and no struct: of both, each pass would have to promise that its tasks stay; of the tasks alone, each clause only grows by `self.now.`.
     /// The new first starts, by the places that the tasks have afterwards.
     fn raise(tasks: &mut [Task], lows: &mut [u32]) -> Result<(), Overload>
         requires formed { Formed tasks.old }
@@ -39,12 +39,12 @@ fn scatter(tasks: &[Task], values: &[u32], out: &mut [u32])
     requires formed { Formed tasks.now }
     requires len { length values.now ≡ length tasks.now }
     requires few { length out.old ≤ most_tasks }
-    requires numbered { AllByRecursion (λ t. t.job < length out.old) tasks.now }
+    requires numbered { All (λ t. t.job < length out.old) tasks.now }
     ensures written { (q : ℕ) → q < length tasks.now → slice_index out.new (at tasks.now q).job ≡ slice_index values.now q }
-    ensures kept { (j : ℕ) → AllByRecursion (λ t. t.job ≢ j) tasks.now → slice_index out.new j ≡ slice_index out.old j }
+    ensures kept { (j : ℕ) → All (λ t. t.job ≢ j) tasks.now → slice_index out.new j ≡ slice_index out.old j }
 {
-    for (q, t) in tasks.iter().enumerate() {
-        out[t.job] = values[q];
+    for (t, value) in tasks.iter().zip(values) {
+        out[t.job] = *value;
     }
 }
 
@@ -52,10 +52,10 @@ fn scatter(tasks: &[Task], values: &[u32], out: &mut [u32])
 pub fn raise_by_job<K: Kernel>(tasks: &mut [Task], out: &mut [u32]) -> Result<(), Overload>
     requires formed { Formed tasks.old }
     requires few { length out.old ≤ most_tasks }
-    requires numbered { AllByRecursion (λ t. t.job < length out.old) tasks.old }
+    requires numbered { All (λ t. t.job < length out.old) tasks.old }
     ensures load { is_err result ≡ K.Kernel.overloaded tasks.old }
-    ensures raised { OnOk result (AllByRecursion (λ t. slice_index out.new t.job ≡ K.Kernel.earliest t tasks.old) tasks.old) }
-    ensures kept { (j : ℕ) → AllByRecursion (λ t. t.job ≢ j) tasks.old → slice_index out.new j ≡ slice_index out.old j }
+    ensures raised { OnOk result (All (λ t. slice_index out.new t.job ≡ K.Kernel.earliest t tasks.old) tasks.old) }
+    ensures kept { (j : ℕ) → All (λ t. t.job ≢ j) tasks.old → slice_index out.new j ≡ slice_index out.old j }
 {
     let mut store = [0; MOST_TASKS];
     let lows = &mut store[0..tasks.len()];

@@ -1,6 +1,5 @@
 // Time the other way round.
-ghost use Rattle.std.specs.Prelude.{◌≡◌, map};
-ghost use Rattle.std.specs.List.{AllByRecursion};
+ghost use Rattle.std.specs.Prelude.{◌≡◌, map, All};
 ghost use Rattle.station.specs.Tasks.{Fit};
 ghost use Rattle.station.specs.Mirror.{mirror};
 
@@ -9,7 +8,7 @@ use crate::task::Task;
 
 /// Has time run back from the horizon.
 pub fn reverse_time(tasks: &mut [Task])
-    requires { AllByRecursion Fit tasks.old }
+    requires { All Fit tasks.old }
     ensures { tasks.new ≡ map mirror tasks.old }
 {
     for t in tasks.iter_mut() {

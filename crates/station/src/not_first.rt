@@ -25,6 +25,7 @@ fn raise_by_sooner(tasks: &[Task], lows: &mut [u32], ready: u32) -> u32
 {
     let mut work: u32 = 0;
     let mut slack: u32 = 2 * HORIZON + MOST_WORK;
+    // By places: after a `zip` with `lows.iter_mut()` a proof knows no element of `lows`.
     for k in (0..tasks.len()).rev() {
         let t = tasks[k];
         let complete = t.lo + t.span;
@@ -55,6 +56,7 @@ fn raise_by_any(tasks: &[Task], lows: &mut [u32], ready: u32, slack: u32)
     requires slack { slack ≡ least_slack ready tasks.now }
     ensures { (q : ℕ) → q < length tasks.now → slice_index lows.new q ≡ raised_by_any ready tasks.now q (slice_index lows.old q) }
 {
+    // By places: after a `zip` with `lows.iter_mut()` a proof knows no element of `lows`.
     for (k, t) in tasks.iter().enumerate() {
         if slack < front_of(*t, ready) + MOST_WORK {
             lows[k] = lows[k].max(ready);

@@ -45,6 +45,7 @@ impl Kernel for PairOrdering {
     ghost lawful = { pairs_lawful };
 
     fn raise(tasks: &mut [Task], lows: &mut [u32]) -> Result<(), Overload> {
+        // By places: after a `zip` with `lows.iter_mut()` a proof knows no element of `lows`.
         for (q, low) in lows.iter_mut().enumerate() {
             *low = after_others(tasks[q], tasks);
         }

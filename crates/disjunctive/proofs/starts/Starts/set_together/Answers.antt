@@ -1,5 +1,5 @@
 -- What is left to show of `set_together`.
-use Rattle.std.proofs.Common.{◌≡◌, ℕ, ◌∙◌, true, length, sym, ap, subst, arith, ext_get_or}
+use Rattle.std.proofs.Common.{◌≡◌, ◌∙◌, true, length, sym, ap, arith, ext_get_or}
 use Rattle.std.proofs.lemmas.Bool.{cond-true}
 use Rattle.rule.specs.Bounds.{all_open, between, tabulate, together}
 use Rattle.rule.specs.Cuts.{Cut, live, left}

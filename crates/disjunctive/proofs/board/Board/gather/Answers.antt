@@ -1,8 +1,8 @@
--- What is left to show of `tasks_at`.
+-- What is left to show of `gather`.
 use Rattle.std.proofs.Common.{length, ap, arith}
 use Rattle.rule.specs.Forming.{formed_fact}
 use Rattle.disjunctive.specs.Gathered.{gathered_short}
-use Rattle.disjunctive.proofs.board.Board.tasks_at.Goals as goal
+use Rattle.disjunctive.proofs.board.Board.gather.Goals as goal
 
 pub overflow_add-window : goal.overflow_add-window
 overflow_add-window c =
