@@ -8,6 +8,7 @@ pub fn write_starts(starts: &[u32], buffer: &mut [u8])
     requires small { (k : ℕ) → k < length starts.now → slice_index starts.now k < 65536 }
     ensures { buffer.new ≡ encoded starts.now ++ drop (2 * length starts.now) buffer.old }
 {
+    // By place: after a zip with chunks_exact_mut a proof knows nothing of what the buffer then holds.
     for (i, start) in starts.iter().enumerate() {
         buffer[2 * i..2 * i + 2].copy_from_slice(&(*start as u16).to_le_bytes());
     }

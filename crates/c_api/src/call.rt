@@ -16,6 +16,7 @@ use report::reported::{Report, Unplanned};
 use slip::fault::Fault;
 
 /// Number, line and inside of a fault in one.
+// No From: it asks that the line leaves room for the three, and From asks nothing.
 fn fault_answer(fault: Fault) -> u32
     requires { fault_line fault ≤ last_line }
     ensures { result ≡ fault_answer fault }
@@ -24,6 +25,7 @@ fn fault_answer(fault: Fault) -> u32
 }
 
 /// Why a slip was not planned, in one number.
+// No From: it hands a fault on to the function above.
 fn unplanned_answer(unplanned: Unplanned) -> u32
     requires { Tellable unplanned }
     ensures { result ≡ unplanned_answer unplanned }

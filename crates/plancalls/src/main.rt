@@ -34,7 +34,9 @@ fn main(rt: HostRuntime) -> io::Result<()> {
     let mut planner = Planner::new(HOUSE_PILE);
     let mut line = LineBuffer::new();
     let mut input = rt.stdin();
+    // A count that no input reaches: every loop is proved to end, and input may not.
     for _ in 0..u64::MAX {
+        // An array and no vector: what is read goes on at once, and read itself says how much it is.
         let mut chunk = [0u8; CHUNK];
         let count = input.read(&mut chunk)?;
         if count == 0 {

@@ -23,12 +23,13 @@ impl<P: Rule> Search<P> {
         ensures state { state_of self.new ≡ after_looks (look_in P.Rule.cut self.old) looks (state_of self.old) }
         ensures draft { self.new.draft ≡ self.old.draft }
     {
-        let mut made = 0;
-        while made < looks && self.outcome() == Outcome::Open {
+        for made in 0..looks {
+            if self.outcome() != Outcome::Open {
+                return made;
+            }
             self.look();
-            made += 1;
         }
-        made
+        looks
     }
 
     /// Grants looks to the search. Answers its outcome and how many looks were made: all of them, or

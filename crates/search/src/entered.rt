@@ -11,6 +11,7 @@ use sheet::records::{Job, Window};
 use sheet::table::Sheet;
 
 /// The window that a job was entered with: from its release to its due time less its duration.
+// No From: Job and Window are both of the crate sheet, and a job has to be one that was entered.
 fn entered_window(job: Job) -> Window
     requires { job.duration ≤ job.due }
     ensures { result ≡ entered_window job }

@@ -24,6 +24,7 @@ pub enum Fault {
 
 impl Fault {
     /// The number that tells the fault.
+    // No From and no discriminants: a fault is told by three numbers, and some faults hold a line.
     pub fn number(self) -> u32
         ensures { result ≡ fault_number self }
     {
@@ -38,6 +39,7 @@ impl Fault {
     }
 
     /// The line that has the fault, or 0 for the whole slip.
+    // A number and no Option, for the same reason.
     pub fn line(self) -> usize
         ensures { result ≡ fault_line self }
     {
@@ -52,6 +54,7 @@ impl Fault {
     }
 
     /// The number of the sheet's refusal, or 0.
+    // A number and no Option: the format and the C call write 0 where the sheet refused nothing.
     pub fn inside(self) -> u32
         ensures { result ≡ fault_inside self }
     {

@@ -1,11 +1,10 @@
 -- One look fewer is left after each turn, and a settled search has none to make.
 use Rattle.std.proofs.Common.{◌≡◌, suc, ◌+◌, ◌-◌, List, sym, ap, ◌∙◌, arith, rules}
 use Rattle.search.specs.declared.decision.Decision.{Decision}
-use Rattle.search.specs.declared.outcome.Outcome.TheVariants as outcome
-use Rattle.search.specs.Looks.{State, outcome_of, after_looks, looks_made}
+use Rattle.search.specs.Looks.{State, after_looks, looks_made}
 use Rattle.planner.specs.declared.state.Standing.TheVariants.{Open}
 use Rattle.planner.specs.States.{path_in, state_of, look_in}
-use Rattle.planner.proofs.Reading.{standing_open, open_after, open_made, settled_after, settled_made, look_same}
+use Rattle.planner.proofs.Reading.{standing_open, open_after, open_made, look_same}
 use Rattle.planner.proofs.state.Search.make_looks.Goals as goal
 
 pub loop-made-preserved : goal.loop-made-preserved
@@ -21,20 +20,6 @@ loop-made-preserved g c =
     let q : looks_made F j (state_of c.look.new.self) ≡ looks_made F j (F (path_in s)) = ap (looks_made F j) y in
     record {
       draft = c.look.ensures.draft ∙ i.draft;
-      granted = omega arith;
       after = ap (after_looks F j) y ∙ sym (open_after F s.standing (path_in s) (c.args.looks - c.loop-made.made) j o k) ∙ i.after;
       made = omega (arith, q, m, i.made);
-    }
-
-pub returns-else-eq : goal.returns-else-eq
-returns-else-eq g c =
-    let s = c.loop-made.self in
-    let i = c.loop-made.invariant in
-    let F : List Decision → State = look_in g.P.Rule.cut c.args.self.now in
-    let k = c.args.looks - c.loop-made.made in
-    let o : outcome_of (state_of s) ≡ outcome.Open → ⊥ = search rules in
-    record {
-      made = omega (arith, settled_made F s.standing (path_in s) k o, i.made);
-      state = sym (settled_after F s.standing (path_in s) k o) ∙ i.after;
-      draft = i.draft;
     }
