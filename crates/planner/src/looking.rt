@@ -17,6 +17,8 @@ use search::entered::{entered_windows, first_starts};
 use sheet::limits::MAX_JOBS;
 use sheet::records::Window;
 
+// Its steps say of the draft that it stays, and ask for an open search, in clauses: a type for the rest of an open
+// search would need the facts that tie its path to the sheet in a clause of each instead.
 impl<P: Rule> Search<P> {
     /// The entered windows, cut down to the parts chosen on the path.
     fn windows(&self) -> ArrayVec<Window, MAX_JOBS>

@@ -23,6 +23,7 @@ pub trait Rule {
 
     ghost cut: { Self → Entries → List Window → Cut };
 
+    // Sheet and windows side by side: a struct of both would be taken apart by every author to write the windows.
     /// Narrows windows that are well formed. This is what a rule's author writes; others call `narrow`.
     fn propagate(&self, sheet: &Sheet, windows: &mut [Window]) -> Verdict
         requires { formed (length (entries sheet.now).jobs) windows.old ≡ true }

@@ -7,4 +7,3 @@ use Rattle.sheet.specs.Entering.{has_link}
 
 pub linked_among_more : (n : ℕ) (ls : List Link) → AllLinked n ls → AllLinked (n + 1) ls
 linked_among_more n ls a k h = let l = a k h in (omega arith, omega arith, l.2, l.3)
-

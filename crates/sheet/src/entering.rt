@@ -44,6 +44,7 @@ impl Sheet {
     }
 
     /// Adds a job and answers its number.
+    // Four numbers and no Job: the numbers may be any, and a Job is one that was entered.
     pub fn enter(
         &mut self,
         station: u32,
