@@ -71,7 +71,12 @@ impl Rule for Drying {
 
     fn propagate(&self, sheet: &Sheet, windows: &mut [Window]) -> Verdict {
         let mut narrowed = copy_of(windows);
-        self.raise(sheet.jobs(), sheet.links(), windows, narrowed.as_mut_slice());
+        self.raise(
+            sheet.jobs(),
+            sheet.links(),
+            windows,
+            narrowed.as_mut_slice(),
+        );
         put_in_place(windows, narrowed.as_slice())
     }
 }

@@ -54,7 +54,12 @@ impl Rule for Route {
 
     fn propagate(&self, sheet: &Sheet, windows: &mut [Window]) -> Verdict {
         let mut narrowed = copy_of(windows);
-        tighten(sheet.jobs(), sheet.links(), windows, narrowed.as_mut_slice());
+        tighten(
+            sheet.jobs(),
+            sheet.links(),
+            windows,
+            narrowed.as_mut_slice(),
+        );
         put_in_place(windows, narrowed.as_slice())
     }
 }
