@@ -1,9 +1,8 @@
 -- What the laws of a pile give of the windows of a search: they are well formed, and a job that is split has room on the path.
 use Rattle.std.proofs.Common.{◌≡◌, ℕ, ◌<◌, true, List, ◌∷◌, length, sym, ap, ◌∙◌, subst}
-use Rattle.std.proofs.lemmas.Bool.{and_parts}
 use Rattle.sheet.specs.declared.records.Window.{Window}
 use Rattle.sheet.proofs.Soundness.{sheet_sound}
-use Rattle.rule.specs.Windows.{window, all_fine, formed, Formed}
+use Rattle.rule.specs.Windows.{window, formed, Formed}
 use Rattle.rule.specs.Cuts.{Cut, live, repeated}
 use Rattle.rule.specs.Laws.{Lawful}
 use Rattle.rule.specs.Forming.{formed_test}

@@ -24,7 +24,7 @@ impl<P: Rule> Search<P> {
         ensures draft { self.new.draft ≡ self.old.draft }
     {
         let mut made = 0;
-        while made < looks && self.outcome == Outcome::Open {
+        while self.outcome == Outcome::Open && made < looks {
             self.look();
             made += 1;
         }

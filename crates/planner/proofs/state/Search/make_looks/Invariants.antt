@@ -4,8 +4,8 @@ use Rattle.search.specs.Looks.{after_looks, looks_made}
 use Rattle.planner.specs.States.{state_of, look_in}
 use Rattle.planner.proofs.state.Search.make_looks.Given as goal
 
-abbrev pub invariant-loop-made : goal.invariant-loop-made
-invariant-loop-made g l =
+abbrev pub invariant-loop-self : goal.invariant-loop-self
+invariant-loop-self g l =
     let F = look_in g.P.Rule.cut l.initial.self in
     record {
       draft : l.self.draft ≡ l.initial.self.draft;
@@ -14,5 +14,5 @@ invariant-loop-made g l =
       made : l.made + looks_made F (l.looks - l.made) (state_of l.self) ≡ looks_made F l.looks (state_of l.initial.self);
     }
 
-abbrev pub decreases-loop-made : goal.decreases-loop-made
-decreases-loop-made g l = l.looks - l.made
+abbrev pub decreases-loop-self : goal.decreases-loop-self
+decreases-loop-self g l = l.looks - l.made
