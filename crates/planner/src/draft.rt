@@ -14,6 +14,7 @@ pub struct Draft<P> {
     pub(crate) pile: P,
 }
 
+// Each call says that the pile stays: a sheet lent out for writing would need a clause on what the loan writes back.
 impl<P> Draft<P> {
     /// A fresh draft, with an empty sheet.
     pub fn new(pile: P) -> Draft<P>
