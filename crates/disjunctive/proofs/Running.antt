@@ -11,16 +11,11 @@ use Rattle.station.specs.declared.task.Task.{Task}
 use Rattle.station.specs.Limits.{horizon}
 use Rattle.station.specs.Mirror.{mirror}
 use Rattle.station.specs.Members.{all_in}
-use Rattle.disjunctive.specs.Gathering.{gathered, span, task, tasks_at}
+use Rattle.disjunctive.specs.Gathering.{span, task, tasks_at}
 use Rattle.disjunctive.specs.StationCuts.{among, any_below}
 use Rattle.disjunctive.specs.Gathered.{task_in, tasks_formed}
 use Rattle.rule.specs.Windows.{Formed as WellFormed}
 use Rattle.station.specs.Kernels.{Lawful as KernelLawful}
-
--- how far the jobs of station x have been gathered
-pub record Gathered (js : List Job) (ws : List Window) (x : ℕ) (tasks mirrored : List Task) (n : ℕ) : Type 0 where
-  pub forth : tasks ≡ gathered js ws x n
-  pub back : mirrored ≡ map mirror (gathered js ws x n)
 
 -- values by job number, of all jobs at station x
 abbrev pub AtStation : (Task → List Task → ℕ) → List Job → List Window → ℕ → List ℕ → Type 0

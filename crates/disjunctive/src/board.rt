@@ -39,8 +39,7 @@ impl<'a> Board<'a> {
     {
         gathered.tasks.clear();
         gathered.mirrored.clear();
-        for (number, window) in self.windows.iter().enumerate() {
-            let job = self.jobs[number];
+        for (number, (job, window)) in self.jobs.iter().zip(self.windows).enumerate() {
             if job.station == station {
                 let task = Task {
                     lo: window.lo,

@@ -1,6 +1,9 @@
 -- What the loop of `gather` keeps.
-use Rattle.disjunctive.proofs.Running.{Gathered}
+use Rattle.std.specs.Slice.Iter.{iter_rest}
+use Rattle.disjunctive.proofs.Gathering.{Gathered}
 use Rattle.disjunctive.proofs.board.Board.gather.Given as goal
 
 abbrev pub invariant-loop-number : goal.invariant-loop-number
-invariant-loop-number l = Gathered l.self.jobs.now l.self.windows.now l.station l.gathered.tasks.items l.gathered.mirrored.items l.number
+invariant-loop-number l =
+    let left = l.number-iterator in
+    Gathered l.self.jobs.now (iter_rest left.iter.a) l.self.windows.now (iter_rest left.iter.b) l.station l.gathered.tasks.items l.gathered.mirrored.items left.count
