@@ -53,7 +53,7 @@ impl<'a> Board<'a> {
             tasks: ArrayVec::new(),
             mirrored: ArrayVec::new(),
         };
-        for station in 0..LAST_STATION + 1 {
+        for station in 0..=LAST_STATION {
             self.raise_station::<K>(station, &mut gathered, &mut starts)?;
         }
         Ok(starts)
