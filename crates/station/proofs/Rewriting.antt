@@ -1,5 +1,5 @@
 -- A loop that writes one place after another: what is done has its new value, and what is left its old.
-use Rattle.std.proofs.Common.{◌≡◌, ℕ, suc, ◌<◌, ◌≤◌, List, [], ◌∷◌, map, length, get_or, set, sym, refl, ap, ◌∙◌, subst, ⊎_elim, arith, get_or-set_other, get_or-set_same}
+use Rattle.std.proofs.Common.{◌≡◌, ℕ, suc, ◌<◌, ◌≤◌, List, length, get_or, set, sym, refl, ap, ◌∙◌, subst, ⊎_elim, arith, get_or-set_other, get_or-set_same}
 use Rattle.std.proofs.lemmas.Bool.{cases_eq}
 
 pub record Rewritten {X : Type 0} (d : X) (f : ℕ → X → X) (xs ys : List X) (Done Left : ℕ → Type 0) : Type 0 where

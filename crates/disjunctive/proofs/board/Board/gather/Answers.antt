@@ -1,7 +1,6 @@
 -- What is left to show of `gather`.
 use Rattle.std.proofs.Common.{length, ap, sym, subst, ◌∙◌, arith}
 use Rattle.std.proofs.lemmas.List.{length-map}
-use Rattle.std.proofs.lemmas.Bool.{eqb-true}
 use Rattle.rule.specs.Forming.{formed_fact}
 use Rattle.station.specs.Tasks.{Fit}
 use Rattle.disjunctive.specs.Gathered.{gathered_short, task_fit}
