@@ -63,12 +63,15 @@ module _ (js : List Job) (ws : List Window) (x : ℕ) where
 
 -- tasks of windows that are well formed
 module _ (js : List Job) (ws : List Window) (entered : AllEntered js) (few : length js ≤ most_jobs) (f : WellFormed (length js) ws) (x : ℕ) where
+  pub task_fit : (k : ℕ) → k < length ws → Fit (task js ws k)
+  task_fit k h =
+      let j = entered k (omega (arith, f.count)) in
+      record { some = j.1; short = j.2; room = omega (arith, f.ordered k h); ends = omega (arith, f.timely k h, j.2) }
+
   pub tasks_formed : Formed (tasks_at js ws x)
   tasks_formed = record {
     few = omega (arith, gathered_short js ws x (length ws), f.count);
-    fit = gathered_all js ws x Fit (length ws) (λ k h e.
-        let j = entered k (omega (arith, f.count)) in
-        record { some = j.1; short = j.2; room = omega (arith, f.ordered k h); ends = omega (arith, f.timely k h, j.2) });
+    fit = gathered_all js ws x Fit (length ws) (λ k h e. task_fit k h);
     distinct = gathered_pairwise js ws x (λ s t. s.job ≢ t.job) (length ws) (λ j k l h d e z. omega arith);
   }
 

@@ -1,7 +1,8 @@
 // The jobs of a sheet beside their windows, and the tasks of a station out of them.
-ghost use Rattle.std.specs.Prelude.{◌≡◌, ◌≤◌, true, length};
+ghost use Rattle.std.specs.Prelude.{◌≡◌, ◌≤◌, true, map, length};
 ghost use Rattle.sheet.specs.Sound.{AllEntered};
 ghost use Rattle.rule.specs.Windows.{formed};
+ghost use Rattle.station.specs.Mirror.{mirror};
 ghost use Rattle.disjunctive.specs.Gathering.{tasks_at};
 
 use arrayvec::ArrayVec;
@@ -21,21 +22,33 @@ pub struct Board<'a> {
     ghost few: { length jobs.now ≤ 48 },
 }
 
+/// The tasks of one station, and the same as time runs back; filled anew for each station.
+#[derive(Drop)]
+pub struct Gathered {
+    /// The tasks, by job number.
+    pub tasks: ArrayVec<Task, MOST_TASKS>,
+    /// The same as time runs back.
+    pub mirrored: ArrayVec<Task, MOST_TASKS>,
+}
+
 impl<'a> Board<'a> {
-    /// Makes `tasks` the jobs at a station with their windows, by number.
-    pub fn gather(&self, station: u32, tasks: &mut ArrayVec<Task, MOST_TASKS>)
-        ensures { tasks.new.items ≡ tasks_at self.now.jobs.now self.now.windows.now station }
+    /// Makes `gathered` the jobs at a station with their windows, by number.
+    pub fn gather(&self, station: u32, gathered: &mut Gathered)
+        ensures tasks { gathered.new.tasks.items ≡ tasks_at self.now.jobs.now self.now.windows.now station }
+        ensures mirrored { gathered.new.mirrored.items ≡ map mirror (tasks_at self.now.jobs.now self.now.windows.now station) }
     {
-        tasks.clear();
-        for (number, window) in self.windows.iter().enumerate() {
-            let job = self.jobs[number];
+        gathered.tasks.clear();
+        gathered.mirrored.clear();
+        for (number, (job, window)) in self.jobs.iter().zip(self.windows).enumerate() {
             if job.station == station {
-                tasks.push(Task {
+                let task = Task {
                     lo: window.lo,
                     span: job.duration,
                     end: window.hi + job.duration,
                     job: number,
-                });
+                };
+                gathered.tasks.push(task);
+                gathered.mirrored.push(task.mirrored());
             }
         }
     }

@@ -36,12 +36,7 @@ impl Starts {
         requires { length jobs.now ≤ 48 }
         ensures { result ≡ all_open (λ k. slice_index self.now.lows k) (λ k. horizon + 1 - (slice_index self.now.backs k + span jobs.now k)) (length jobs.now) }
     {
-        for (number, job) in jobs.iter().enumerate() {
-            if self.lows[number] >= self.limit(number, *job) {
-                return false;
-            }
-        }
-        true
+        jobs.iter().enumerate().all(|(number, job)| self.lows[number] < self.limit(number, *job))
     }
 
     /// Sets the first starts, and the last starts by what the first are as time runs back; dead if a first start passes its last.
@@ -54,6 +49,7 @@ impl Starts {
         if !self.all_open(jobs) {
             return Err(Dead);
         }
+        // By number: after a `zip` with `windows.iter_mut()` a proof knows no element of `windows`.
         for (number, window) in windows.iter_mut().enumerate() {
             let lo = self.lows[number];
             let hi = self.limit(number, jobs[number]) - 1;

@@ -1,5 +1,5 @@
 -- A loop that writes one place after another: what is done has its new value, and what is left its old.
-use Rattle.std.proofs.Common.{◌≡◌, ℕ, suc, ◌<◌, ◌≤◌, List, [], ◌∷◌, map, length, get_or, set, sym, refl, ap, ◌∙◌, subst, ⊎_elim, arith, get_or-set_other, get_or-set_same}
+use Rattle.std.proofs.Common.{◌≡◌, ℕ, suc, ◌<◌, ◌≤◌, List, length, get_or, set, sym, refl, ap, ◌∙◌, subst, ⊎_elim, arith, get_or-set_other, get_or-set_same}
 use Rattle.std.proofs.lemmas.Bool.{cases_eq}
 
 pub record Rewritten {X : Type 0} (d : X) (f : ℕ → X → X) (xs ys : List X) (Done Left : ℕ → Type 0) : Type 0 where
@@ -39,11 +39,3 @@ module _ {X : Type 0} (d : X) (f : ℕ → X → X) (xs : List X) where
 
     pub down_same : (ys : List X) (k j : ℕ) → DownTo ys k → k ≡ suc j → get_or ys j d ≡ f j (get_or ys j d) → DownTo ys j
     down_same ys k j r e = rewritten_same d f xs ys _ _ _ _ r j (omega arith) (λ q h n. (omega (arith, h.0), h.1)) (λ q h. ((λ e. omega arith), omega arith))
-
--- all places written: a map
-pub mapped : {X : Type 0} (d : X) (f : X → X) (xs ys : List X) → length ys ≡ length xs → ((q : ℕ) → q < length xs → get_or ys q d ≡ f (get_or xs q d)) → ys ≡ map f xs
-mapped d f [] [] e h = refl
-mapped d f [] (y ∷ ys) e h = absurd (omega arith)
-mapped d f (x ∷ xs) [] e h = absurd (omega arith)
-mapped d f (x ∷ xs) (y ∷ ys) e h =
-    ap (λ a. a ∷ ys) (h 0 (omega arith)) ∙ ap (λ zs. f x ∷ zs) (mapped d f xs ys (omega arith) (λ q l. h (suc q) (omega arith)))

@@ -4,7 +4,6 @@
 pub mod edges;
 pub mod kernel;
 pub mod limits;
-pub mod mirror;
 pub mod not_first;
 pub mod order;
 pub mod pairs;

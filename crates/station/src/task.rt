@@ -1,4 +1,7 @@
 // A task of a station.
+ghost use Rattle.std.specs.Prelude.{◌≡◌};
+
+use crate::limits::HORIZON;
 
 /// A job at a station, with the starts that are left to it.
 #[derive(Clone, Copy, Default)]
@@ -11,4 +14,21 @@ pub struct Task {
     pub end: u32,
     /// The job's number.
     pub job: usize,
+}
+
+impl Task {
+    ghost use Rattle.station.specs.Tasks.{Fit};
+    ghost use Rattle.station.specs.Mirror.{mirror};
+
+    /// The same task as time runs back from the horizon.
+    pub fn mirrored(self) -> Task
+        requires { Fit self }
+        ensures { result ≡ mirror self }
+    {
+        Task {
+            lo: HORIZON - self.end,
+            end: HORIZON - self.lo,
+            ..self
+        }
+    }
 }

@@ -1,7 +1,9 @@
 -- What the loop of `gather` keeps.
-use Rattle.std.proofs.Common.{◌≡◌}
-use Rattle.disjunctive.specs.Gathering.{gathered}
+use Rattle.std.specs.Slice.Iter.{iter_rest}
+use Rattle.disjunctive.proofs.Gathering.{Gathered}
 use Rattle.disjunctive.proofs.board.Board.gather.Given as goal
 
 abbrev pub invariant-loop-number : goal.invariant-loop-number
-invariant-loop-number l = l.tasks.items ≡ gathered l.self.jobs.now l.self.windows.now l.station l.number
+invariant-loop-number l =
+    let left = l.number-iterator in
+    Gathered l.self.jobs.now (iter_rest left.iter.a) l.self.windows.now (iter_rest left.iter.b) l.station l.gathered.tasks.items l.gathered.mirrored.items left.count
