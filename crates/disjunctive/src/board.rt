@@ -22,23 +22,19 @@ pub struct Board<'a> {
     ghost few: { length jobs.now ≤ 48 },
 }
 
-/// The tasks of one station, and the same as time runs back; filled anew for each station.
-#[derive(Drop)]
-pub struct Gathered {
-    /// The tasks, by job number.
-    pub tasks: ArrayVec<Task, MOST_TASKS>,
-    /// The same as time runs back.
-    pub mirrored: ArrayVec<Task, MOST_TASKS>,
-}
-
 impl<'a> Board<'a> {
-    /// Makes `gathered` the jobs at a station with their windows, by number.
-    pub fn gather(&self, station: u32, gathered: &mut Gathered)
-        ensures tasks { gathered.new.tasks.items ≡ tasks_at self.now.jobs.now self.now.windows.now station }
-        ensures mirrored { gathered.new.mirrored.items ≡ map mirror (tasks_at self.now.jobs.now self.now.windows.now station) }
+    /// Makes `tasks` the jobs at a station with their windows, by number, and `mirrored` the same as time runs back.
+    pub fn gather(
+        &self,
+        station: u32,
+        tasks: &mut ArrayVec<Task, MOST_TASKS>,
+        mirrored: &mut ArrayVec<Task, MOST_TASKS>,
+    )
+        ensures tasks { tasks.new.items ≡ tasks_at self.now.jobs.now self.now.windows.now station }
+        ensures mirrored { mirrored.new.items ≡ map mirror (tasks_at self.now.jobs.now self.now.windows.now station) }
     {
-        gathered.tasks.clear();
-        gathered.mirrored.clear();
+        tasks.clear();
+        mirrored.clear();
         for (number, (job, window)) in self.jobs.iter().zip(self.windows).enumerate() {
             if job.station == station {
                 let task = Task {
@@ -47,8 +43,8 @@ impl<'a> Board<'a> {
                     end: window.hi + job.duration,
                     job: number,
                 };
-                gathered.tasks.push(task);
-                gathered.mirrored.push(task.mirrored());
+                tasks.push(task);
+                mirrored.push(task.mirrored());
             }
         }
     }

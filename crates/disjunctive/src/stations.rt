@@ -8,7 +8,7 @@ ghost use Rattle.station.specs.Mirror.{mirror};
 ghost use Rattle.disjunctive.specs.Gathering.{task, tasks_at};
 ghost use Rattle.disjunctive.specs.StationCuts.{any_below, stations, among, station_cut};
 
-use crate::board::{Board, Gathered};
+use crate::board::Board;
 use crate::starts::Starts;
 use arrayvec::ArrayVec;
 use rule::verdict::{Dead, Verdict};
@@ -16,13 +16,16 @@ use sheet::limits::{LAST_STATION, MAX_JOBS};
 use sheet::records::Window;
 use sheet::table::Sheet;
 use station::kernel::{Kernel, Overload, raise_by_job};
+use station::limits::MOST_TASKS;
+use station::task::Task;
 
 impl<'a> Board<'a> {
-    // The new first starts of the jobs at a station, and those as time runs back. The tasks are worked on in `gathered`.
+    // The new first starts of the jobs at a station, and those as time runs back. The tasks are worked on in `tasks` and `mirrored`.
     fn raise_station<K: Kernel>(
         &self,
         station: u32,
-        gathered: &mut Gathered,
+        tasks: &mut ArrayVec<Task, MOST_TASKS>,
+        mirrored: &mut ArrayVec<Task, MOST_TASKS>,
         starts: &mut Starts,
     ) -> Result<(), Overload>
         ensures load { is_err result ≡ K.Kernel.overloaded (tasks_at self.now.jobs.now self.now.windows.now station) }
@@ -31,12 +34,12 @@ impl<'a> Board<'a> {
         ensures backs { OnOk result ((k : ℕ) → k < length self.now.windows.now → (job self.now.jobs.now k).station ≡ station → slice_index starts.new.backs k ≡ K.Kernel.earliest (mirror (task self.now.jobs.now self.now.windows.now k)) (map mirror (tasks_at self.now.jobs.now self.now.windows.now station))) }
         ensures other_backs { (k : ℕ) → ((job self.now.jobs.now k).station ≡ station → ⊥) → slice_index starts.new.backs k ≡ slice_index starts.old.backs k }
     {
-        self.gather(station, gathered);
-        if gathered.tasks.is_empty() {
+        self.gather(station, tasks, mirrored);
+        if tasks.is_empty() {
             return Ok(());
         }
-        raise_by_job::<K>(&mut gathered.tasks, &mut starts.lows)?;
-        raise_by_job::<K>(&mut gathered.mirrored, &mut starts.backs)
+        raise_by_job::<K>(tasks, &mut starts.lows)?;
+        raise_by_job::<K>(mirrored, &mut starts.backs)
     }
 
     // The same of all stations.
@@ -49,12 +52,11 @@ impl<'a> Board<'a> {
             lows: [0; MAX_JOBS],
             backs: [0; MAX_JOBS],
         };
-        let mut gathered = Gathered {
-            tasks: ArrayVec::new(),
-            mirrored: ArrayVec::new(),
-        };
+        // Two buffers and no struct: one struct of both is cleared byte by byte, 2,000 instructions more for each look.
+        let mut tasks = ArrayVec::new();
+        let mut mirrored = ArrayVec::new();
         for station in 0..=LAST_STATION {
-            self.raise_station::<K>(station, &mut gathered, &mut starts)?;
+            self.raise_station::<K>(station, &mut tasks, &mut mirrored, &mut starts)?;
         }
         Ok(starts)
     }

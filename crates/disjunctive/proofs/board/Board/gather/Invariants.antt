@@ -6,4 +6,4 @@ use Rattle.disjunctive.proofs.board.Board.gather.Given as goal
 abbrev pub invariant-loop-number : goal.invariant-loop-number
 invariant-loop-number l =
     let left = l.number-iterator in
-    Gathered l.self.jobs.now (iter_rest left.iter.a) l.self.windows.now (iter_rest left.iter.b) l.station l.gathered.tasks.items l.gathered.mirrored.items left.count
+    Gathered l.self.jobs.now (iter_rest left.iter.a) l.self.windows.now (iter_rest left.iter.b) l.station l.tasks.items l.mirrored.items left.count
