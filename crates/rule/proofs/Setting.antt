@@ -105,11 +105,11 @@ module _ (lo end : ℕ → ℕ) (ws vs : List Window) (set_in : vs ≡ tabulate 
       subst (λ (v : Window). v.lo ≤ v.hi) w (f.ordered k (omega (arith, f.count)))
 
   -- it is what the cut leaves, unless a last start below zero was put down as 0
-  together_passed : all_fine vs ≡ true → ((k : ℕ) → k < length ws → 0 < end k) → together lo end (length ws) ≡ live vs
+  pub together_passed : all_fine vs ≡ true → ((k : ℕ) → k < length ws → 0 < end k) → together lo end (length ws) ≡ live vs
   together_passed t above =
       cond-true _ _ _ (open_from lo end (length ws) (λ k h. omega (arith, passed_ordered t k h, above k h))) ∙ ap live (sym set_in)
 
-  together_failed : {n : ℕ} → Formed n ws → ((k : ℕ) → (window ws k).lo ≤ lo k) → ((k : ℕ) → end k ≤ (window ws k).hi + 1) → all_fine vs ≡ false → together lo end (length ws) ≡ dead
+  pub together_failed : {n : ℕ} → Formed n ws → ((k : ℕ) → (window ws k).lo ≤ lo k) → ((k : ℕ) → end k ≤ (window ws k).hi + 1) → all_fine vs ≡ false → together lo end (length ws) ≡ dead
   together_failed f low high t =
       ⊎_elim
       (λ (o : all_open lo end (length ws) ≡ true).
