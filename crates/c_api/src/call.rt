@@ -25,7 +25,7 @@ fn fault_answer(fault: Fault) -> u32
 }
 
 /// Why a slip was not planned, in one number.
-// No From: it hands a fault on to the function above.
+// No From, for the same reason.
 fn unplanned_answer(unplanned: Unplanned) -> u32
     requires { Tellable unplanned }
     ensures { result ≡ unplanned_answer unplanned }
@@ -37,6 +37,7 @@ fn unplanned_answer(unplanned: Unplanned) -> u32
 }
 
 /// The number of a report's outcome; where a timetable was found, its starts go into the buffer.
+// A number and no Outcome: the C call answers one number for all.
 fn report_answer(report: Report<HousePile>, buffer: &mut [u8]) -> u32
     requires { Writable (state_of report.search) buffer.old }
     ensures answer { result ≡ outcome_number (outcome_of (state_of report.search)) }

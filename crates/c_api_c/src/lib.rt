@@ -13,6 +13,7 @@ ghost use Rattle.c_api.specs.Answers.{answer, buffer_after};
 /// + 1,000,000 × the refusal inside; else 11 for looks of 0 or above 1,000,000, or 14 for a buffer
 /// below 2 bytes a job. On found the buffer has each start as two bytes, low byte first; its other
 /// bytes, and on all else the whole buffer, are untouched.
+// The same once more as in c_api: a crate is a library or a static library, and tests stand on the library.
 #[unsafe(no_mangle)]
 pub extern "C" fn riuvelde_plan(slip: &[u8], looks: u32, buffer: &mut [u8]) -> u32
     ensures answer { result ≡ answer (plan_slip house_cut slip.now looks (length buffer.old / 2)) }

@@ -35,6 +35,7 @@ pub enum Call {
 #[derive(Clone, Copy, PartialEq, Eq, Debug)]
 pub enum Answer {
     /// The number of the job entered, the start asked for, or 0 for a link and a move.
+    // One number for the three: a call answers a number, whatever it is called for, and plancalls prints it.
     Number(u32),
     /// Why the call was refused; it changed nothing.
     Refused(Refusal),

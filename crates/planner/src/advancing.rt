@@ -16,6 +16,7 @@ use sheet::table::Sheet;
 /// How many looks an advance may be granted; at least 1.
 pub const MAX_LOOKS: u32 = 1_000_000;
 
+// Both say of the draft that it stays, as the steps of a look do: see there.
 impl<P: Rule> Search<P> {
     /// Looks until the search is settled or so many are made, and answers how many were made.
     fn make_looks(&mut self, looks: u32) -> u32

@@ -5,6 +5,7 @@ use arrayvec::ArrayVec;
 use house::pile::HousePile;
 use house::planning::plan;
 use report::reported::Report;
+use slip::reader::MAX_SLIP;
 use std::io;
 use std::io::Read;
 
@@ -12,7 +13,7 @@ use std::io::Read;
 const LOOKS: u32 = 100_000;
 
 /// One byte more than a slip may have: enough to know that it is too long.
-const ENOUGH: usize = 4_097;
+const ENOUGH: usize = MAX_SLIP + 1;
 
 /// A line for each job: number, station, start, end.
 fn print_timetable(rt: &HostRuntime, report: &Report<HousePile>) -> io::Result<()> {

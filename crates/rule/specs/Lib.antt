@@ -8,3 +8,4 @@ pub mod Rounds
 pub mod Forming
 pub mod Piling
 pub mod Repeating
+pub mod Onward

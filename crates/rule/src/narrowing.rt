@@ -23,8 +23,9 @@ pub trait Rule {
 
     ghost cut: { Self → Entries → List Window → Cut };
 
-    // Sheet and windows side by side: a struct of both would be taken apart by every author to write the windows.
     /// Narrows windows that are well formed. This is what a rule's author writes; others call `narrow`.
+    // Sheet and windows side by side, well formed by a clause: a struct of both, with that as a ghost field, would be
+    // taken apart by every author to write the windows.
     fn propagate(&self, sheet: &Sheet, windows: &mut [Window]) -> Verdict
         requires { formed (length (entries sheet.now).jobs) windows.old ≡ true }
         ensures answer { result ≡ verdict_of (cut self.now (entries sheet.now) windows.old) }

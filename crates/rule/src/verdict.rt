@@ -9,7 +9,8 @@ pub struct Dead;
 /// Whether a timetable may still lie within the windows: `Ok` where one may, and they are the narrowed ones.
 pub type Verdict = Result<(), Dead>;
 
-/// The number that tells the verdict. No `From`: a `Result` and a `u32` are both the library's.
+/// The number that tells the verdict.
+// No From: a Result and a u32 are both the library's.
 pub fn number(verdict: Verdict) -> u32
     ensures { result ≡ verdict_number verdict }
 {

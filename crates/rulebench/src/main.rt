@@ -39,6 +39,7 @@ fn main(rt: HostRuntime) -> anyhow::Result<()> {
     let mut sheet = Sheet::new();
     fill(&mut sheet, jobs.parse::<u32>()?);
     let times = calls.parse::<u32>()?;
+    // A match and no `&dyn Rule`: the way to the rule would be counted along.
     let alive = match rule.as_str() {
         "pairs" => call(&PAIRS, &sheet, times),
         "edges" => call(&EDGES, &sheet, times),

@@ -31,6 +31,7 @@ impl Path {
 
     /// After a dead end: drops the last decisions that are on their second part, and takes the next to
     /// its second part. Whether there is such a one.
+    // A bool: nothing comes with the yes, and the no is no failure.
     pub fn backtrack(&mut self) -> bool
         ensures answer { result ≡ is_open (backtracked (decisions self.old)) }
         ensures after { decisions self.new ≡ path_of (backtracked (decisions self.old)) }

@@ -11,7 +11,7 @@ use sheet::records::{Job, Window};
 use sheet::table::Sheet;
 
 /// The window that a job was entered with: from its release to its due time less its duration.
-// No From: Job and Window are both of the crate sheet, and a job has to be one that was entered.
+// No From: it asks that the job is one that was entered, and From asks nothing.
 fn entered_window(job: Job) -> Window
     requires { job.duration ≤ job.due }
     ensures { result ≡ entered_window job }
@@ -36,8 +36,8 @@ pub fn entered_windows(sheet: &Sheet) -> ArrayVec<Window, MAX_JOBS>
 }
 
 /// The first start of each window.
-pub fn first_starts(windows: &[Window]) -> ArrayVec<u32, MAX_JOBS>
-    requires { length windows.now ≤ 48 }
+pub fn first_starts<const N: usize>(windows: &[Window]) -> ArrayVec<u32, N>
+    requires { length windows.now ≤ N }
     ensures { result.items ≡ starts_of windows.now }
 {
     let mut starts = ArrayVec::new();

@@ -7,8 +7,8 @@ use crate::decision::Decision;
 /// of at most 40,001 starts.
 pub const MAX_DECISIONS: usize = 768;
 
-// An array beside its depth: an `ArrayVec` hides the places past its length, of which `Blank` tells.
 /// Decisions in the order in which they were made. The places past the depth are blank or stale.
+// An array beside its depth: `close` promises of every place that it is blank, and an `ArrayVec` hides those past its length.
 #[derive(Drop)]
 pub struct Path {
     pub(crate) places: [Decision; MAX_DECISIONS],

@@ -44,7 +44,8 @@ impl Sheet {
     }
 
     /// Adds a job and answers its number.
-    // Four numbers and no Job: the numbers may be any, and a Job is one that was entered.
+    // Four numbers and no Job, here and in link and move: every caller has them one by one, and would write out a Job
+    // for this call to take apart.
     pub fn enter(
         &mut self,
         station: u32,

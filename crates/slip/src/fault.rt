@@ -39,7 +39,7 @@ impl Fault {
     }
 
     /// The line that has the fault, or 0 for the whole slip.
-    // A number and no Option, for the same reason.
+    // A number and no Option: the format and the C call write 0 where the whole slip is at fault.
     pub fn line(self) -> usize
         ensures { result ≡ fault_line self }
     {

@@ -22,7 +22,7 @@ pub(crate) enum Stage {
 }
 
 /// The kind that a letter tells at a stage.
-// No TryFrom: a letter tells a kind only together with the stage.
+// No TryFrom, from a letter and a stage: its error would say no more than None.
 pub(crate) fn line_kind(letter: u8, stage: Stage) -> Option<Kind>
     ensures { result ≡ kind_of letter stage }
 {

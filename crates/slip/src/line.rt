@@ -77,6 +77,7 @@ fn trailer_line(sheet: &Sheet, line: usize, place: usize, text: &[u8]) -> Result
 }
 
 /// A line of a kind, by what follows its letter.
+// Line, place and length are bounded in clauses: what bounds them is the whole slip, of which these are parts.
 fn read_kind(
     sheet: &mut Sheet,
     at: Progress,

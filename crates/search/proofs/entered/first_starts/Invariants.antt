@@ -4,4 +4,4 @@ use Rattle.rule.specs.Windows.{starts}
 use Rattle.search.proofs.entered.first_starts.Given as goal
 
 abbrev pub invariant-loop-window : goal.invariant-loop-window
-invariant-loop-window l = l.starts.items ≡ starts (take l.window-index l.windows)
+invariant-loop-window g l = l.starts.items ≡ starts (take l.window-index l.windows)
