@@ -26,8 +26,7 @@ fn raise_by_later(tasks: &[Task], lows: &mut [u32], bound: u32) -> (u32, u32)
     let mut work: u32 = 0;
     let mut completion: u32 = 0;
     // By places: after a `zip` with `lows.iter_mut()` a proof knows no element of `lows`.
-    for k in (0..tasks.len()).rev() {
-        let t = tasks[k];
+    for (k, t) in tasks.iter().enumerate().rev() {
         if t.end <= bound {
             work += t.span;
             completion = completion.max(t.lo + work);

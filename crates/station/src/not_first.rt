@@ -26,8 +26,7 @@ fn raise_by_sooner(tasks: &[Task], lows: &mut [u32], ready: u32) -> u32
     let mut work: u32 = 0;
     let mut slack: u32 = 2 * HORIZON + MOST_WORK;
     // By places: after a `zip` with `lows.iter_mut()` a proof knows no element of `lows`.
-    for k in (0..tasks.len()).rev() {
-        let t = tasks[k];
+    for (k, t) in tasks.iter().enumerate().rev() {
         let complete = t.lo + t.span;
         if complete >= ready {
             if slack < complete + MOST_WORK {
