@@ -1,5 +1,5 @@
 -- A pass over tasks from the last down, which keeps two figures of the tasks behind it and rewrites a bound for each.
-use Rattle.std.proofs.Common.{◌≡◌, ℕ, suc, ◌+◌, ◌<◌, ◌≤◌, List, [], ◌∷◌, ◌++◌, length, get_or, drop, set, sym, ap, ◌∙◌, append_assoc, append-nil, refl, drop_of_length-le, arith}
+use Rattle.std.proofs.Common.{◌≡◌, ℕ, suc, ◌+◌, ◌<◌, ◌≤◌, List, [], ◌∷◌, ◌++◌, length, get_or, drop, set, sym, ap, ◌∙◌, append_assoc, arith}
 use Rattle.std.proofs.lemmas.List.{length_push, get_or_at}
 use Rattle.station.specs.declared.task.Task.{Task}
 use Rattle.station.specs.Sets.{work}

@@ -1,11 +1,11 @@
 -- What is left to show of `raise_by_later`.
-use Rattle.std.proofs.Common.{◌≡◌, ℕ, ◌+◌, ◌<◌, length, get_or, drop, max, sym, refl, ap, ◌∙◌, subst, arith}
+use Rattle.std.proofs.Common.{◌+◌, length, max, ap, ◌∙◌, arith}
 use Rattle.std.specs.Slice.Iter.{iter_rest}
 use Rattle.station.specs.declared.task.Task.{Task}
-use Rattle.station.specs.EdgesPasses.{work_of, completion_by, ends_by, raised_by_later}
+use Rattle.station.specs.EdgesPasses.{ends_by}
 use Rattle.station.specs.Members.{fit_at}
 use Rattle.station.specs.Works.{work_most}
-use Rattle.station.proofs.EdgesTurns.{Later, later_held, later_raise, later_pass}
+use Rattle.station.proofs.EdgesTurns.{later_held, later_raise, later_pass}
 use Rattle.station.proofs.Passes.{front_turn}
 use Rattle.station.proofs.edges.raise_by_later.Goals as goal
 

@@ -1,5 +1,5 @@
 -- What is left to show of `raise_by_sooner`.
-use Rattle.std.proofs.Common.{◌≡◌, ℕ, ◌+◌, ◌-◌, length, min, refl, ap, ◌∙◌, arith}
+use Rattle.std.proofs.Common.{◌≡◌, ◌+◌, ◌-◌, length, min, refl, ap, ◌∙◌, arith}
 use Rattle.std.specs.Slice.Iter.{iter_rest}
 use Rattle.station.specs.declared.task.Task.{Task}
 use Rattle.station.specs.Limits.{most_work}
@@ -42,8 +42,10 @@ loop-k-preserved-then-complete-ready c =
     let turn = front_turn d.0 s.0 s.1.0 s.1.1 in
     let U = c.args.tasks.now in
     let j = c.in-Some.k in
-    let r : c.min-slack.result ≡ min c.loop-k.slack ((at U j).end + most_work - (c.loop-k.work + (at U j).span)) = c.min-slack.ensures ∙ ap (λ (t : Task). min c.loop-k.slack (t.end + most_work - (c.loop-k.work + t.span))) turn.3 in
-    (turn.0, rw (turn.1, turn.3) (elim c.if-slack-complete.branch [
-      | then-slack-complete w ↦ pass_as _ _ _ _ _ _ _ _ _ _ _ _ (sooner_raise _ _ _ _ _ _ _ j d.1 turn.2 (omega (arith, ap (λ (t : Task). t.lo) turn.3, ap (λ (t : Task). t.span) turn.3, c.if-complete-ready.true)) _ r (omega (arith, ap (λ (t : Task). t.lo) turn.3, ap (λ (t : Task). t.span) turn.3, w.if-slack-complete.true)) (omega (arith, c.loop-k.auto.lows, c.requires.len, d.1.within, turn.2)) _ w.max.ensures) w.lows-is refl refl
-      | else-slack-complete w ↦ pass_as _ _ _ _ _ _ _ _ _ _ _ _ (sooner_keep _ _ _ _ _ _ _ j d.1 turn.2 (omega (arith, ap (λ (t : Task). t.lo) turn.3, ap (λ (t : Task). t.span) turn.3, c.if-complete-ready.true)) _ r (omega (arith, ap (λ (t : Task). t.lo) turn.3, ap (λ (t : Task). t.span) turn.3, w.if-slack-complete.false))) w.lows-is refl refl
-    ]))
+    let r : c.min-slack.result ≡ min c.loop-k.slack ((at U j).end + most_work - (c.loop-k.work + (at U j).span)) = c.min-slack.ensures ∙ ap (λ (t : Task). min c.loop-k.slack (t.end + most_work - (c.loop-k.work + t.span))) turn.3 in (
+      turn.0,
+      rw (turn.1, turn.3) (elim c.if-slack-complete.branch [
+        | then-slack-complete w ↦ pass_as _ _ _ _ _ _ _ _ _ _ _ _ (sooner_raise _ _ _ _ _ _ _ j d.1 turn.2 (omega (arith, ap (λ (t : Task). t.lo) turn.3, ap (λ (t : Task). t.span) turn.3, c.if-complete-ready.true)) _ r (omega (arith, ap (λ (t : Task). t.lo) turn.3, ap (λ (t : Task). t.span) turn.3, w.if-slack-complete.true)) (omega (arith, c.loop-k.auto.lows, c.requires.len, d.1.within, turn.2)) _ w.max.ensures) w.lows-is refl refl
+        | else-slack-complete w ↦ pass_as _ _ _ _ _ _ _ _ _ _ _ _ (sooner_keep _ _ _ _ _ _ _ j d.1 turn.2 (omega (arith, ap (λ (t : Task). t.lo) turn.3, ap (λ (t : Task). t.span) turn.3, c.if-complete-ready.true)) _ r (omega (arith, ap (λ (t : Task). t.lo) turn.3, ap (λ (t : Task). t.span) turn.3, w.if-slack-complete.false))) w.lows-is refl refl
+      ]),
+    )
