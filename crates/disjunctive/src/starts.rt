@@ -12,6 +12,7 @@ use sheet::records::{Job, Window};
 use station::limits::HORIZON;
 
 /// New first starts, by job number.
+// Two arrays and not one of pairs: `raise_by_job` writes one direction of time into a plain slice.
 #[derive(Clone, Copy)]
 pub struct Starts {
     /// The first starts.
@@ -21,7 +22,7 @@ pub struct Starts {
 }
 
 impl Starts {
-    // The least start that a job may not have any more.
+    /// The least start that a job may not have any more.
     fn limit(&self, number: usize, job: Job) -> u32
         requires { number < 48 }
         ensures { result ≡ horizon + 1 - (slice_index self.now.backs number + job.duration) }
@@ -31,7 +32,7 @@ impl Starts {
             .saturating_sub(self.backs[number])
     }
 
-    // Whether a start is left to each job.
+    /// Whether a start is left to each job.
     fn all_open(&self, jobs: &[Job]) -> bool
         requires { length jobs.now ≤ 48 }
         ensures { result ≡ all_open (λ k. slice_index self.now.lows k) (λ k. horizon + 1 - (slice_index self.now.backs k + span jobs.now k)) (length jobs.now) }
@@ -49,7 +50,7 @@ impl Starts {
         if !self.all_open(jobs) {
             return Err(Dead);
         }
-        // By number: after a `zip` with `windows.iter_mut()` a proof knows no element of `windows`.
+        // `enumerate` and numbers, no `zip`: after a `zip` with `windows.iter_mut()` a proof does not know what the loop wrote to `windows`.
         for (number, window) in windows.iter_mut().enumerate() {
             let lo = self.lows[number];
             let hi = self.limit(number, jobs[number]) - 1;

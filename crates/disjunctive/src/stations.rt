@@ -20,7 +20,7 @@ use station::limits::MOST_TASKS;
 use station::task::Task;
 
 impl<'a> Board<'a> {
-    // The new first starts of the jobs at a station, and those as time runs back. The tasks are worked on in `tasks` and `mirrored`.
+    /// The new first starts of the jobs at a station, and those as time runs back. The tasks are worked on in `tasks` and `mirrored`.
     fn raise_station<K: Kernel>(
         &self,
         station: u32,
@@ -35,6 +35,7 @@ impl<'a> Board<'a> {
         ensures other_backs { (k : ℕ) → ((job self.now.jobs.now k).station ≡ station → ⊥) → slice_index starts.new.backs k ≡ slice_index starts.old.backs k }
     {
         self.gather(station, tasks, mirrored);
+        // Passed over without tasks: `raise_by_job` would clear its buffer for nothing.
         if tasks.is_empty() {
             return Ok(());
         }
@@ -42,7 +43,7 @@ impl<'a> Board<'a> {
         raise_by_job::<K>(mirrored, &mut starts.backs)
     }
 
-    // The same of all stations.
+    /// The same of all stations.
     fn raise_all<K: Kernel>(&self) -> Result<Starts, Overload>
         ensures load { is_err result ≡ any_below (λ x. K.Kernel.overloaded (tasks_at self.now.jobs.now self.now.windows.now x)) stations }
         ensures lows { IfOk result (λ starts. (k : ℕ) → k < length self.now.windows.now → slice_index starts.lows k ≡ among K.Kernel.earliest self.now.jobs.now self.now.windows.now k) }

@@ -1,7 +1,9 @@
 -- A pass over tasks from the last down, which keeps two figures of the tasks behind it and rewrites a bound for each.
-use Rattle.std.proofs.Common.{◌≡◌, ℕ, suc, ◌<◌, ◌≤◌, List, length, get_or, drop, set, ap, ◌∙◌, arith}
+use Rattle.std.proofs.Common.{◌≡◌, ℕ, suc, ◌+◌, ◌<◌, ◌≤◌, List, [], ◌∷◌, ◌++◌, length, get_or, drop, set, sym, ap, ◌∙◌, append_assoc, arith}
+use Rattle.std.proofs.lemmas.List.{length_push, get_or_at}
 use Rattle.station.specs.declared.task.Task.{Task}
 use Rattle.station.specs.Sets.{work}
+use Rattle.station.specs.Tasks.{at, no_task}
 use Rattle.station.proofs.Rewriting.{DownTo, down_same, down_set}
 
 pub record Pass (work figure : List Task → ℕ) (raised : ℕ → ℕ → ℕ) (U : List Task) (xs ys : List ℕ) (k w t : ℕ) : Type 0 where
@@ -30,3 +32,20 @@ module _ (work figure : List Task → ℕ) (raised : ℕ → ℕ → ℕ) (U : L
 
 pub pass_as : (work figure : List Task → ℕ) (raised : ℕ → ℕ → ℕ) (U : List Task) (xs ys zs : List ℕ) (k w v t r : ℕ) → Pass work figure raised U xs ys k w t → zs ≡ ys → v ≡ w → r ≡ t → Pass work figure raised U xs zs k v r
 pass_as work figure raised U xs ys zs k w v t r p a b c = rw (a, b, c) p
+
+-- what a pass from the last task down has left, with the count that its places begin at
+pub record Front (U R : List Task) (n : ℕ) : Type 0 where
+  pub from_zero : n ≡ 0
+  pub behind : List Task
+  pub parts : U ≡ R ++ behind
+
+-- one place further down: what is left then, its length, the length before, and which task is met
+pub front_turn : {U R S : List Task} {n m k : ℕ} {t : Task} → Front U R n → m ≡ n → R ≡ S ++ t ∷ [] → k ≡ n + length S → Front U S m × (length S ≡ k) × (length R ≡ suc k) × (t ≡ at U k)
+front_turn {U} {R} {S} {n} {m} {k} {t} f same last place =
+    let parts : U ≡ S ++ (t ∷ f.behind) = f.parts ∙ ap (λ (xs : List Task). xs ++ f.behind) last ∙ append_assoc S (t ∷ []) f.behind in
+    let here : length S ≡ k = omega (arith, f.from_zero) in (
+      record { from_zero = same ∙ f.from_zero; behind = t ∷ f.behind; parts = parts },
+      here,
+      omega (arith, ap length last, length_push S t),
+      sym (ap (λ (xs : List Task). at xs k) parts ∙ get_or_at S t f.behind no_task k here),
+    )

@@ -14,8 +14,8 @@ use crate::task::Task;
 #[derive(Clone, Copy)]
 pub struct EdgeFinding;
 
-// From the last task down, for the sets that end by `bound`: their work, and the greatest of a start and the work from
-// there on.
+/// From the last task down, for the sets that end by `bound`: their work, and the greatest of a start and the work from
+/// there on.
 fn raise_by_later(tasks: &[Task], lows: &mut [u32], bound: u32) -> (u32, u32)
     requires formed { Formed tasks.now }
     requires len { length lows.old ≡ length tasks.now }
@@ -25,9 +25,8 @@ fn raise_by_later(tasks: &[Task], lows: &mut [u32], bound: u32) -> (u32, u32)
 {
     let mut work: u32 = 0;
     let mut completion: u32 = 0;
-    // By places: after a `zip` with `lows.iter_mut()` a proof knows no element of `lows`.
-    for k in (0..tasks.len()).rev() {
-        let t = tasks[k];
+    // `enumerate` and `lows[k]`, no `zip`: after a `zip` with `lows.iter_mut()` a proof does not know what the loop wrote to `lows`.
+    for (k, t) in tasks.iter().enumerate().rev() {
         if t.end <= bound {
             work += t.span;
             completion = completion.max(t.lo + work);
@@ -38,7 +37,7 @@ fn raise_by_later(tasks: &[Task], lows: &mut [u32], bound: u32) -> (u32, u32)
     (work, completion)
 }
 
-// From the first task up, with what `raise_by_later` told.
+/// From the first task up, with what `raise_by_later` told.
 fn raise_by_earlier(tasks: &[Task], lows: &mut [u32], bound: u32, work: u32, completion: u32)
     requires formed { Formed tasks.now }
     requires len { length lows.old ≡ length tasks.now }
@@ -48,7 +47,7 @@ fn raise_by_earlier(tasks: &[Task], lows: &mut [u32], bound: u32, work: u32, com
 {
     let mut rest = work;
     let mut peak: u32 = 0;
-    // By places: after a `zip` with `lows.iter_mut()` a proof knows no element of `lows`.
+    // `enumerate` and `lows[k]`, no `zip`: after a `zip` with `lows.iter_mut()` a proof does not know what the loop wrote to `lows`.
     for (k, t) in tasks.iter().enumerate() {
         if t.end <= bound {
             peak = peak.max(t.lo + rest);
@@ -59,7 +58,7 @@ fn raise_by_earlier(tasks: &[Task], lows: &mut [u32], bound: u32, work: u32, com
     }
 }
 
-// Both passes for the sets that end by `bound`.
+/// Both passes for the sets that end by `bound`.
 fn raise_by_both(tasks: &[Task], lows: &mut [u32], bound: u32) -> Result<(), Overload>
     requires formed { Formed tasks.now }
     requires len { length lows.old ≡ length tasks.now }
@@ -74,7 +73,7 @@ fn raise_by_both(tasks: &[Task], lows: &mut [u32], bound: u32) -> Result<(), Ove
     Ok(())
 }
 
-// The passes for the end of each task, from the first starts as they are.
+/// The passes for the end of each task, from the first starts as they are.
 fn raise_by_all(tasks: &[Task], lows: &mut [u32]) -> Result<(), Overload>
     requires formed { Formed tasks.now }
     requires len { length lows.old ≡ length tasks.now }

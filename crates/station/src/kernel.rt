@@ -22,8 +22,9 @@ pub trait Kernel {
 
     ghost limit: { Task → List Task → ℕ };
 
-    // Two slices with clauses, and no struct: of both, each pass would have to promise that its tasks stay; of the tasks alone, each clause only grows by `self.now.`.
     /// The new first starts, by the places that the tasks have afterwards.
+    // Two slices and no struct: of both, each pass would have to promise that its tasks stay; one of the tasks alone was not found plainer, since sorting and this function take `&mut [Task]` and could not use it.
+    // Into `lows`, and no value: an `ArrayVec` in the result is moved twice, 3 to 5 percent more instructions for a look at 12 jobs.
     fn raise(tasks: &mut [Task], lows: &mut [u32]) -> Result<(), Overload>
         requires formed { Formed tasks.old }
         requires len { length lows.old ≡ length tasks.old }
@@ -34,7 +35,7 @@ pub trait Kernel {
     ghost lawful: { Lawful overloaded earliest limit };
 }
 
-// Writes the values of the tasks to `out` by job number.
+/// Writes the values of the tasks to `out` by job number.
 fn scatter(tasks: &[Task], values: &[u32], out: &mut [u32])
     requires formed { Formed tasks.now }
     requires len { length values.now ≡ length tasks.now }

@@ -15,8 +15,8 @@ use std::cmp::Reverse;
 #[derive(Clone, Copy)]
 pub struct NotFirstNotLast;
 
-// From the earliest end to the latest, for the tasks that are complete at `ready` or later: the least of an end less the
-// work up to there.
+/// From the earliest end to the latest, for the tasks that are complete at `ready` or later: the least of an end less the
+/// work up to there.
 fn raise_by_sooner(tasks: &[Task], lows: &mut [u32], ready: u32) -> u32
     requires formed { Formed tasks.now }
     requires len { length lows.old ≡ length tasks.now }
@@ -25,9 +25,8 @@ fn raise_by_sooner(tasks: &[Task], lows: &mut [u32], ready: u32) -> u32
 {
     let mut work: u32 = 0;
     let mut slack: u32 = 2 * HORIZON + MOST_WORK;
-    // By places: after a `zip` with `lows.iter_mut()` a proof knows no element of `lows`.
-    for k in (0..tasks.len()).rev() {
-        let t = tasks[k];
+    // `enumerate` and `lows[k]`, no `zip`: after a `zip` with `lows.iter_mut()` a proof does not know what the loop wrote to `lows`.
+    for (k, t) in tasks.iter().enumerate().rev() {
         let complete = t.lo + t.span;
         if complete >= ready {
             if slack < complete + MOST_WORK {
@@ -40,7 +39,7 @@ fn raise_by_sooner(tasks: &[Task], lows: &mut [u32], ready: u32) -> u32
     slack
 }
 
-// From when on the task has to fit in front of all others: its own work is in their slack already where it counts there.
+/// From when on the task has to fit in front of all others: its own work is in their slack already where it counts there.
 fn front_of(task: Task, ready: u32) -> u32
     requires { Fit task }
     ensures { result ≡ front ready task }
@@ -49,14 +48,14 @@ fn front_of(task: Task, ready: u32) -> u32
     if complete >= ready { task.lo } else { complete }
 }
 
-// All tasks once more, with the slack of them all.
+/// All tasks once more, with the slack of them all.
 fn raise_by_any(tasks: &[Task], lows: &mut [u32], ready: u32, slack: u32)
     requires formed { Formed tasks.now }
     requires len { length lows.old ≡ length tasks.now }
     requires slack { slack ≡ least_slack ready tasks.now }
     ensures { (q : ℕ) → q < length tasks.now → slice_index lows.new q ≡ raised_by_any ready tasks.now q (slice_index lows.old q) }
 {
-    // By places: after a `zip` with `lows.iter_mut()` a proof knows no element of `lows`.
+    // `enumerate` and `lows[k]`, no `zip`: after a `zip` with `lows.iter_mut()` a proof does not know what the loop wrote to `lows`.
     for (k, t) in tasks.iter().enumerate() {
         if slack < front_of(*t, ready) + MOST_WORK {
             lows[k] = lows[k].max(ready);
@@ -64,7 +63,7 @@ fn raise_by_any(tasks: &[Task], lows: &mut [u32], ready: u32, slack: u32)
     }
 }
 
-// The passes for the completion of each task, from the first starts as they are.
+/// The passes for the completion of each task, from the first starts as they are.
 fn raise_from_all(tasks: &[Task], lows: &mut [u32])
     requires formed { Formed tasks.now }
     requires len { length lows.old ≡ length tasks.now }

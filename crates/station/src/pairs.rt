@@ -11,7 +11,7 @@ use crate::task::Task;
 #[derive(Clone, Copy)]
 pub struct PairOrdering;
 
-// Whether the task cannot come before the other, which is of another job.
+/// Whether the task cannot come before the other, which is of another job.
 fn comes_after(task: Task, other: Task) -> bool
     requires task { Fit task }
     requires other { Fit other }
@@ -20,7 +20,7 @@ fn comes_after(task: Task, other: Task) -> bool
     other.job != task.job && task.lo + task.span > other.end - other.span
 }
 
-// The first start of a task after all that it cannot come before.
+/// The first start of a task after all that it cannot come before.
 fn after_others(task: Task, tasks: &[Task]) -> u32
     requires fit { Fit task }
     requires formed { Formed tasks.now }
@@ -45,7 +45,7 @@ impl Kernel for PairOrdering {
     ghost lawful = { pairs_lawful };
 
     fn raise(tasks: &mut [Task], lows: &mut [u32]) -> Result<(), Overload> {
-        // By places: after a `zip` with `lows.iter_mut()` a proof knows no element of `lows`.
+        // `enumerate` and `tasks[q]`, no `zip`: after a `zip` with `lows.iter_mut()` a proof does not know what the loop wrote to `lows`.
         for (q, low) in lows.iter_mut().enumerate() {
             *low = after_others(tasks[q], tasks);
         }
