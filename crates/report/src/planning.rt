@@ -10,6 +10,7 @@ use rule::narrowing::Rule;
 use sheet::refusal::Refusal;
 
 /// Plans the sheet of a draft, where there is room for so many starts.
+// The looks are tested here as in advance, which is called when the room is known: the looks speak first.
 fn plan_draft<P: Rule + Drop>(
     draft: Draft<P>,
     looks: u32,
@@ -30,6 +31,7 @@ fn plan_draft<P: Rule + Drop>(
 }
 
 /// Plans a slip with any pile of rules, where there is room for so many starts.
+// Three parameters and no struct: they are those of the call for C, and each caller hands on just these.
 pub fn plan_with<P: Rule + Drop>(
     pile: P,
     bytes: &[u8],

@@ -23,8 +23,10 @@ pub trait Kernel {
     ghost limit: { Task → List Task → ℕ };
 
     /// The new first starts, by the places that the tasks have afterwards.
-    // Two slices and no struct: of both, each pass would have to promise that its tasks stay; one of the tasks alone was not found plainer, since sorting and this function take `&mut [Task]` and could not use it.
-    // Into `lows`, and no value: an `ArrayVec` in the result is moved twice, 3 to 5 percent more instructions for a look at 12 jobs.
+    // Two slices and no struct: of both, each pass would have to promise that its tasks stay; one of the tasks alone was
+    // not found plainer, since sorting and this function take `&mut [Task]` and could not use it.
+    // Into `lows`, and no value: an `ArrayVec` in the result is moved twice, 4 to 6 percent more instructions for a look
+    // with six jobs at a station.
     fn raise(tasks: &mut [Task], lows: &mut [u32]) -> Result<(), Overload>
         requires formed { Formed tasks.old }
         requires len { length lows.old ≡ length tasks.old }
