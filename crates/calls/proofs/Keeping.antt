@@ -9,7 +9,7 @@ use Rattle.sheet.specs.Sound.{Sound}
 use Rattle.sheet.proofs.Accepting.{none_sound, enter_sound, link_sound, move_sound}
 use Rattle.rule.specs.Cuts.{Cut}
 use Rattle.rule.specs.Laws.{Lawful}
-use Rattle.search.specs.declared.outcome.Outcome.{Outcome}
+use Rattle.search.specs.Outcomes.{outcome_number}
 use Rattle.search.specs.Looks.{State, opened, found, impossible, outcome_of, one_look, after_looks, looks_made}
 use Rattle.search.proofs.Rows.{after_add, made_add}
 use Rattle.planner.specs.Calls.{most_looks, found_start}
@@ -66,8 +66,9 @@ module _ (admits : Entries → List ℕ → Type 0) (cut : Entries → List Wind
     -- an advance by n looks, where b tells whether that is out of range
     advanced : (n : ℕ) (b : Bool) →
         let f = one_look (cut l.closed) l.closed in
-        let r : Result (Outcome × ℕ) Refusal = cond b (Err LooksOutOfRange) (Ok (outcome_of (after_looks f n x), looks_made f n x)) in
-        GoesOn l (Advance n) (advanced_or_refused r) (searching l.closed (taken r x (after_looks f n x)))
+        let o = outcome_of (after_looks f n x) in
+        let r : Result (ℕ × ℕ) Refusal = cond b (Err LooksOutOfRange) (Ok (outcome_number o, looks_made f n x)) in
+        GoesOn l (Advance n) (advanced_or_refused o r) (searching l.closed (taken r x (after_looks f n x)))
     advanced n true = ((refl, g), tt)
     advanced n false =
         let f = one_look (cut l.closed) l.closed in

@@ -6,7 +6,7 @@ use Rattle.sheet.specs.Entries.{Entries, no_entries, job_of, link_of, with_job, 
 use Rattle.sheet.specs.Entering.{enter_answer, link_answer, move_answer, taken}
 use Rattle.rule.specs.Cuts.{Cut}
 use Rattle.search.specs.declared.outcome.Outcome.{Outcome}
-use Rattle.search.specs.Looks.{State, opened, one_look, after_looks}
+use Rattle.search.specs.Looks.{State, opened, outcome_of, one_look, after_looks}
 use Rattle.planner.specs.Calls.{advance_answer, start_answer}
 use Rattle.calls.specs.declared.call.Call.{Call}
 use Rattle.calls.specs.declared.call.Call.TheVariants.{Enter, Link, Move, Close, Advance, Start, Reopen}
@@ -34,9 +34,10 @@ own n = n
 abbrev pub zero : Unit {0} → ℕ
 zero u = 0
 
-abbrev pub advanced_or_refused : Result (Outcome × ℕ) Refusal → Answer
-advanced_or_refused (Ok x) = Advanced x.0 x.1
-advanced_or_refused (Err r) = Refused r
+-- an accepted advance answers the outcome that the search then has, and the looks made
+abbrev pub advanced_or_refused : Outcome → Result (ℕ × ℕ) Refusal → Answer
+advanced_or_refused o (Ok x) = Advanced o x.1
+advanced_or_refused o (Err r) = Refused r
 
 module _ (cut : Entries → List Window → Cut) where
   abbrev pub answer_of : Stage → Call → Answer
@@ -44,7 +45,7 @@ module _ (cut : Entries → List Window → Cut) where
   answer_of (drafting e) (Link a b w) = numbered zero (link_answer e (link_of a b w))
   answer_of (drafting e) (Move k r d) = numbered zero (move_answer e k r d)
   answer_of (drafting e) Close = Closed
-  answer_of (searching e x) (Advance g) = advanced_or_refused (advance_answer (one_look (cut e) e) g x)
+  answer_of (searching e x) (Advance g) = advanced_or_refused (outcome_of (after_looks (one_look (cut e) e) g x)) (advance_answer (one_look (cut e) e) g x)
   answer_of (searching e x) (Start k) = numbered own (start_answer (length e.jobs) x k)
   answer_of (searching e x) Reopen = Reopened
   answer_of _ _ = OutOfTurn

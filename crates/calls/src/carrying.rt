@@ -46,10 +46,11 @@ fn on_search<P: Rule>(mut search: Search<P>, call: Call) -> (Planner<P>, Answer)
     ensures pile { pile_of result.0 ≡ search.draft.pile.0 }
 {
     let answer = match call {
-        Call::Advance { looks } => search.advance(looks).map_or_else(
-            Answer::Refused,
-            |(outcome, made)| Answer::Advanced(outcome, made),
-        ),
+        Call::Advance { looks } => search
+            .advance(looks)
+            .map_or_else(Answer::Refused, |(_, made)| {
+                Answer::Advanced(search.outcome(), made)
+            }),
         Call::Start { job } => search
             .start(job)
             .map_or_else(Answer::Refused, Answer::Number),

@@ -3,18 +3,18 @@ use Rattle.std.specs.Prelude.{◌≡◌, ℕ, cond, ◌||◌, List, Some, None, 
 use Rattle.sheet.specs.declared.refusal.Refusal.{Refusal}
 use Rattle.sheet.specs.declared.refusal.Refusal.TheVariants.{UnknownJob, LooksOutOfRange, NotFound}
 use Rattle.search.specs.declared.decision.Decision.{Decision}
-use Rattle.search.specs.declared.outcome.Outcome.{Outcome}
+use Rattle.search.specs.Outcomes.{outcome_number}
 use Rattle.search.specs.Looks.{State, opened, found, impossible, outcome_of, after_looks, looks_made}
 
 -- how many looks an advance may be granted
 abbrev pub most_looks : ℕ
 most_looks = 1000000
 
--- the outcome and the looks made, where f is one look
-abbrev pub advance_answer : (List Decision → State) → ℕ → State → Result (Outcome × ℕ) Refusal
+-- the number of the outcome and the looks made, where f is one look
+abbrev pub advance_answer : (List Decision → State) → ℕ → State → Result (ℕ × ℕ) Refusal
 advance_answer f g s =
     cond (g == 0 || nat_lt most_looks g) (Err LooksOutOfRange)
-    (Ok (outcome_of (after_looks f g s), looks_made f g s))
+    (Ok (outcome_number (outcome_of (after_looks f g s)), looks_made f g s))
 
 abbrev pub found_start : State → ℕ → Result ℕ Refusal
 found_start (opened p) k = Err NotFound

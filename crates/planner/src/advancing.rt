@@ -18,28 +18,35 @@ pub const MAX_LOOKS: u32 = 1_000_000;
 
 // Both say of the draft that it stays, as the steps of a look do: see there.
 impl<P: Rule> Search<P> {
-    /// Looks until the search is settled or so many are made, and answers how many were made.
-    fn make_looks(&mut self, looks: u32) -> u32
-        ensures made { result ≡ looks_made (look_in P.Rule.cut self.old) looks (state_of self.old) }
+    /// Looks until the search is settled or so many are made: the outcome, and how many were made.
+    fn make_looks(&mut self, looks: u32) -> (Outcome, u32)
+        ensures outcome { result.0 ≡ outcome_of (state_of self.new) }
+        ensures made { result.1 ≡ looks_made (look_in P.Rule.cut self.old) looks (state_of self.old) }
         ensures state { state_of self.new ≡ after_looks (look_in P.Rule.cut self.old) looks (state_of self.old) }
         ensures draft { self.new.draft ≡ self.old.draft }
     {
-        for made in 0..looks {
-            if self.outcome() != Outcome::Open {
-                return made;
+        let mut made: u32 = 0;
+        let outcome = loop {
+            match self.outcome() {
+                Outcome::Open => {}
+                settled => break settled,
+            }
+            if made == looks {
+                break Outcome::Open;
             }
             self.look();
-        }
-        looks
+            made += 1;
+        };
+        (outcome, made)
     }
 
-    /// Grants looks to the search. Answers its outcome and how many looks were made: all of them, or
-    /// fewer where it is settled.
+    /// Grants looks to the search. Answers the number of its outcome and how many looks were made:
+    /// all of them, or fewer where it is settled.
     ///
     /// Whatever advances led here since the close: none fits where the outcome is impossible, the
     /// timetable found fits, and twice the number of timetables within the entered windows, less one,
     /// is enough looks and never passed.
-    pub fn advance(&mut self, looks: u32) -> Result<(Outcome, u32), Refusal>
+    pub fn advance(&mut self, looks: u32) -> Result<(u32, u32), Refusal>
         ensures answer { result ≡ advance_answer (look_in P.Rule.cut self.old) looks (state_of self.old) }
         ensures state { state_of self.new ≡ taken result (state_of self.old) (after_looks (look_in P.Rule.cut self.old) looks (state_of self.old)) }
         ensures path { path_in self.new ≡ path_of (state_of self.new) }
@@ -51,8 +58,8 @@ impl<P: Rule> Search<P> {
         if looks == 0 || looks > MAX_LOOKS {
             return Err(Refusal::LooksOutOfRange);
         }
-        let made = self.make_looks(looks);
-        Ok((self.outcome(), made))
+        let (outcome, made) = self.make_looks(looks);
+        Ok((outcome.into(), made))
     }
 }
 

@@ -34,7 +34,7 @@ fn check_instalments<P: Rule + Drop>(
 ) -> Result<(), Fail> {
     let (granted, made) = advance_by_instalments(&mut by_instalments, count)?;
     let (outcome, looks) = at_once.advance(granted)?;
-    assert_eq!(rt; by_instalments.outcome(), outcome, "outcome");
+    assert_eq!(rt; u32::from(by_instalments.outcome()), outcome, "outcome");
     assert_eq!(rt; made, looks, "looks made");
     assert_eq!(rt; by_instalments.timetable(), at_once.timetable(), "starts");
     Ok(())

@@ -34,7 +34,7 @@ static FULL_PATH: [Advance; 2] = [(768, 0, 768), (1, 1, 1)];
 fn check_advance<P: Rule>(rt: &impl Abort, search: &mut Search<P>, advance: Advance) {
     let (looks, number, made) = advance;
     let answer = match search.advance(looks) {
-        Ok((outcome, made)) => (u32::from(outcome), made),
+        Ok(answer) => answer,
         Err(refusal) => (u32::from(refusal), 0),
     };
     assert_eq!(rt; answer.0, number, "outcome");

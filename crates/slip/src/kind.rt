@@ -26,11 +26,10 @@ pub(crate) enum Stage {
 pub(crate) fn line_kind(letter: u8, stage: Stage) -> Option<Kind>
     ensures { result ≡ kind_of letter stage }
 {
-    match (letter, stage) {
-        (_, Stage::Ended) => None,
-        (b'J', Stage::Jobs) => Some(Kind::JobLine),
-        (b'L', _) => Some(Kind::LinkLine),
-        (b'E', _) => Some(Kind::Trailer),
+    match letter as char {
+        'J' if stage == Stage::Jobs => Some(Kind::JobLine),
+        'L' if stage != Stage::Ended => Some(Kind::LinkLine),
+        'E' if stage != Stage::Ended => Some(Kind::Trailer),
         _ => None,
     }
 }

@@ -11,7 +11,7 @@ returns-then-looks-eq0-clause-instalments g c = composes (look_in g.P.Rule.cut c
 pub returns-clause-promise : goal.returns-clause-promise
 returns-clause-promise g c =
     let s = c.args.self.now in
-    let e = c.make_looks-made.ensures in
+    let e = c.make_looks-outcome.ensures in
     let sound = sheet_sound s.draft.sheet in
     keeps_promise (entries_of s) sound (g.met.P.Rule.lawful s.draft.pile.0 (entries_of s) sound) (state_of s) c.args.looks _ _ e.state e.made
 
