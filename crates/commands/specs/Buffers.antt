@@ -14,7 +14,7 @@ abbrev pub kept : List ℕ → Option (List ℕ)
 kept line = cond (nat_le (length line) longest_line) (Some line) None
 
 abbrev pub held : LineBuffer → Option (List ℕ)
-held b = option_map (λ v. v.items) b.0
+held b = option_map (λ v. v.items) b.bytes
 
 -- with one byte more
 abbrev pub longer : Option (List ℕ) → ℕ → Option (List ℕ)

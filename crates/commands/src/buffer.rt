@@ -1,5 +1,6 @@
 // The place where a line is kept while its bytes come in: bytes one at a time to lines, and a line to its call.
-ghost use Rattle.std.specs.Prelude.{◌≡◌, [], Some, None, MatchOption, ◌==◌};
+ghost use Rattle.std.specs.Prelude.{◌≡◌, ◌≤◌, ℕ, [], length, Some, None, MatchOption, ◌==◌};
+ghost use Rattle.arrayvec.specs.ArrayVec.{ArrayVec as Bytes};
 ghost use Rattle.text.specs.Bytes.{line_end};
 
 use crate::command::parse;
@@ -11,7 +12,10 @@ pub const MAX_LINE: usize = 64;
 
 /// The bytes of a line so far, or none of a line that is longer than there are places.
 #[derive(Drop)]
-pub struct LineBuffer(Option<ArrayVec<u8, MAX_LINE>>);
+pub struct LineBuffer {
+    bytes: Option<ArrayVec<u8, MAX_LINE>>,
+    ghost short: { (v : Bytes ℕ) → bytes ≡ Some v → length v.items ≤ 64 },
+}
 
 impl LineBuffer {
     ghost use Rattle.commands.specs.Buffers.{held, longer, after_byte, has_byte, held_call, Grows, ReadsAny};
@@ -20,14 +24,16 @@ impl LineBuffer {
     pub fn new() -> LineBuffer
         ensures { held result ≡ Some [] }
     {
-        LineBuffer(Some(ArrayVec::new()))
+        LineBuffer {
+            bytes: Some(ArrayVec::new()),
+        }
     }
 
     /// Forgets the line.
     pub fn clear(&mut self)
         ensures { held self.new ≡ Some [] }
     {
-        match &mut self.0 {
+        match &mut self.bytes {
             Some(line) => line.clear(),
             None => *self = LineBuffer::new(),
         }
@@ -37,7 +43,7 @@ impl LineBuffer {
     pub fn has_byte(&self) -> bool
         ensures { result ≡ has_byte (held self.now) }
     {
-        match &self.0 {
+        match &self.bytes {
             Some(line) => !line.is_empty(),
             None => true,
         }
@@ -47,9 +53,9 @@ impl LineBuffer {
     fn push(&mut self, byte: u8)
         ensures { held self.new ≡ longer (held self.old) byte }
     {
-        if let Some(line) = &mut self.0 {
+        if let Some(line) = &mut self.bytes {
             if line.try_push(byte).is_err() {
-                self.0 = None;
+                self.bytes = None;
             }
         }
     }
@@ -71,7 +77,7 @@ impl LineBuffer {
     fn line(&self) -> Option<&[u8]>
         ensures { MatchOption result (held self.now ≡ None) (λ x. held self.now ≡ Some x.now) }
     {
-        Some(self.0.as_ref()?.as_slice())
+        Some(self.bytes.as_ref()?.as_slice())
     }
 
     /// The call that the line writes, if it is not too long.

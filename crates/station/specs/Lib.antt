@@ -1,6 +1,7 @@
 -- The definitions that the contracts of this crate cite.
 pub mod Limits
 pub mod Tasks
+pub mod Orders
 pub mod Sets
 pub mod Pairs
 pub mod Edges
