@@ -1,8 +1,8 @@
 -- The tasks of a station.
-use Rattle.std.specs.Prelude.{◌≡◌, ℕ, zero, suc, ◌<◌, ◌≤◌, List, [], ◌∷◌, ◌++◌, length, ◌==◌, ◌≢◌, slice_index}
-use Rattle.std.proofs.Common.{sym, ap, subst, ◌∙◌, ⊎_elim, arith}
+use Rattle.std.specs.Prelude.{◌≡◌, ℕ, zero, suc, ◌+◌, ◌<◌, ◌≤◌, List, [], ◌∷◌, ◌++◌, length, take, ◌==◌, ◌≢◌, slice_index, slice_set, refl}
+use Rattle.std.proofs.Common.{sym, ap, subst, ◌∙◌, ⊎_elim, arith, add-one, length-set}
 use Rattle.std.specs.List.{AllByRecursion}
-use Rattle.std.proofs.lemmas.List.{length_push}
+use Rattle.std.proofs.lemmas.List.{length_push, take_more_set}
 use Rattle.std.proofs.ByRecursion.{All-push}
 use Rattle.std.proofs.lemmas.Bool.{cond-true, cond-false, cond_both, cases_eq, eq-eqb, ne_eqb}
 use Rattle.sheet.specs.declared.records.Job.{Job}
@@ -12,6 +12,7 @@ use Rattle.sheet.specs.Limits.{most_jobs}
 use Rattle.sheet.specs.Sound.{AllEntered}
 use Rattle.rule.specs.Windows.{Inside}
 use Rattle.station.specs.declared.task.Task.{Task}
+use Rattle.station.specs.Limits.{most_tasks}
 use Rattle.station.specs.Tasks.{Pairwise, Fit, Formed}
 use Rattle.station.specs.Kernels.{Apart, Placed}
 use Rattle.station.specs.Members.{In, here, in_left, in_right}
@@ -60,6 +61,36 @@ module _ (js : List Job) (ws : List Window) (x : ℕ) where
   gathered_short (suc n) =
       let r : length (gathered js ws x n) ≤ n = gathered_short n in
       cond_both ((job js n).station == x) (gathered js ws x n ++ (task js ws n ∷ [])) (gathered js ws x n) (λ L. length L ≤ suc n) (λ b. omega (arith, length_push (gathered js ws x n) (task js ws n))) (λ b. omega arith)
+
+-- for a loop that gathers the jobs of a station into an array, with a count beside it: how far it has come
+pub record Gathering (js : List Job) (ws : List Window) (x : ℕ) (ts : List Task) (k m : ℕ) : Type 0 where
+  pub room : length ts ≡ most_tasks
+  pub count : m ≡ length (gathered js ws x k)
+  pub taken : take m ts ≡ gathered js ws x k
+
+pub gathering_none : (js : List Job) (ws : List Window) (x : ℕ) (ts : List Task) → length ts ≡ most_tasks → Gathering js ws x ts 0 0
+gathering_none js ws x ts h = record { room = h; count = refl; taken = refl }
+
+module _ (js : List Job) (ws : List Window) (x : ℕ) (ts : List Task) (k m : ℕ) (g : Gathering js ws x ts k m) where
+  pub gathering_fits : k < most_tasks → m < length ts
+  gathering_fits h = omega (arith, g.count, g.room, gathered_short js ws x k)
+
+  pub gathering_yes : (job js k).station ≡ x → k < most_tasks → Gathering js ws x (slice_set ts m (task js ws k)) (k + 1) (m + 1)
+  gathering_yes e h =
+      let y : gathered js ws x (suc k) ≡ gathered js ws x k ++ (task js ws k ∷ []) = gathered_yes js ws x k e in
+      rw (add-one k) (record {
+        room = length-set ts m (task js ws k) ∙ g.room;
+        count = omega (arith, g.count, length_push (gathered js ws x k) (task js ws k), ap length y);
+        taken = take_more_set ts m (task js ws k) (gathering_fits h) ∙ ap (λ (L : List Task). L ++ (task js ws k ∷ [])) g.taken ∙ sym y;
+      })
+
+  pub gathering_no : ((job js k).station ≢ x) → Gathering js ws x ts (k + 1) m
+  gathering_no e =
+      let y : gathered js ws x (suc k) ≡ gathered js ws x k = gathered_no js ws x k e in
+      rw (add-one k) (record { room = g.room; count = g.count ∙ ap length (sym y); taken = g.taken ∙ sym y })
+
+pub gathering_as : (js : List Job) (ws : List Window) (x : ℕ) (ts us : List Task) (k m n : ℕ) → Gathering js ws x ts k m → us ≡ ts → n ≡ m → Gathering js ws x us k n
+gathering_as js ws x ts us k m n g e f = rw (e, f) g
 
 -- tasks of windows that are well formed
 module _ (js : List Job) (ws : List Window) (entered : AllEntered js) (few : length js ≤ most_jobs) (f : WellFormed (length js) ws) (x : ℕ) where

@@ -1,6 +1,7 @@
 -- What the links make of windows.
 use Rattle.std.specs.Prelude.{◌≡◌, ℕ, ◌+◌, ◌<◌, ◌≤◌, min, max, true, false, List, length, slice_index}
 use Rattle.std.proofs.Common.{ap, arith}
+use Rattle.std.proofs.lemmas.Bool.{and_parts}
 use Rattle.sheet.specs.declared.records.Job.{Job}
 use Rattle.sheet.specs.declared.records.Link.{Link}
 use Rattle.sheet.specs.declared.records.Window.{Window}
@@ -12,7 +13,7 @@ use Rattle.rule.specs.Bounds.{between, tabulate, if_fine}
 use Rattle.rule.specs.Laws.{Keeps}
 use Rattle.rule.proofs.Bounding.{together_live, together_keeps, open_at}
 use Rattle.rule.proofs.Tightest.{tightest_own, tightest_all, tightest_link}
-use Rattle.rule.proofs.Setting.{starts_at, passed_ordered, together_if_fine}
+use Rattle.rule.proofs.Setting.{starts_at, passed_ordered, together_passed, together_failed, together_if_fine}
 use Rattle.route.specs.Route.{Holds, AllHold, start_after, past_before, earliest_start, past_latest_start, route_cut}
 
 module _ (js : List Job) (ws : List Window) (ls : List Link) where
@@ -46,7 +47,14 @@ module _ (e : Entries) (s : Sound e) (ws : List Window) (f : Formed (length e.jo
       let second = (link e.links i).to in
       omega (arith, passed_ordered _ _ ws vs n t second (second_there i l), earliest_after_link e.jobs ws e.links i l, latest_not_later e.jobs ws e.links second))
 
-  -- the narrowed copy is put in place if it is fine, and the rule is dead if not
+  -- the narrowed copy is set if it is well formed, and the rule is dead if not
+  pub route_passed : (vs : List Window) → vs ≡ narrowed ws e.jobs e.links → formed (length ws) vs ≡ true → route_cut e ws ≡ live vs
+  route_passed vs n t = let fine = (and_parts _ _ t).1 in together_passed _ _ ws vs n fine (no_end_at_zero vs n fine)
+
+  pub route_failed : (vs : List Window) → vs ≡ narrowed ws e.jobs e.links → formed (length ws) vs ≡ false → route_cut e ws ≡ dead
+  route_failed vs n t = together_failed _ _ ws vs n f (earliest_not_sooner e.jobs ws e.links) (latest_not_later e.jobs ws e.links) t
+
+  -- so it is put in place if it is fine
   pub route_if_fine : (vs : List Window) → vs ≡ narrowed ws e.jobs e.links → route_cut e ws ≡ if_fine vs
   route_if_fine vs n = together_if_fine _ _ ws vs n f (earliest_not_sooner e.jobs ws e.links) (latest_not_later e.jobs ws e.links) (no_end_at_zero vs n)
 

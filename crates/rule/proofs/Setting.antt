@@ -98,6 +98,13 @@ module _ (lo end : ℕ → ℕ) (ws vs : List Window) (set_in : vs ≡ tabulate 
   fine_formed : all_fine vs ≡ true → formed (length ws) vs ≡ true
   fine_formed t = and_from _ _ (eq-eqb _ _ (ap length set_in ∙ tabulate_length (between lo end) (length ws))) t
 
+  not_formed : all_fine vs ≡ false → formed (length ws) vs ≡ false
+  not_formed t =
+      ⊎_elim
+      (λ (e : formed (length ws) vs ≡ true). absurd (both_ways _ t (and_parts _ _ e).1))
+      (λ (e : formed (length ws) vs ≡ false). e)
+      (cases_Bool (formed (length ws) vs))
+
   pub passed_ordered : all_fine vs ≡ true → (k : ℕ) → k < length ws → lo k ≤ end k - 1
   passed_ordered t k h =
       let f = formed_fact vs (fine_formed t) in
@@ -109,12 +116,12 @@ module _ (lo end : ℕ → ℕ) (ws vs : List Window) (set_in : vs ≡ tabulate 
   together_passed t above =
       cond-true _ _ _ (open_from lo end (length ws) (λ k h. omega (arith, passed_ordered t k h, above k h))) ∙ ap live (sym set_in)
 
-  pub together_failed : {n : ℕ} → Formed n ws → ((k : ℕ) → (window ws k).lo ≤ lo k) → ((k : ℕ) → end k ≤ (window ws k).hi + 1) → all_fine vs ≡ false → together lo end (length ws) ≡ dead
+  pub together_failed : {n : ℕ} → Formed n ws → ((k : ℕ) → (window ws k).lo ≤ lo k) → ((k : ℕ) → end k ≤ (window ws k).hi + 1) → formed (length ws) vs ≡ false → together lo end (length ws) ≡ dead
   together_failed f low high t =
       ⊎_elim
       (λ (o : all_open lo end (length ws) ≡ true).
       let w : Within vs ws = together_within lo end ws vs (cond-true _ _ _ o ∙ ap live (sym set_in)) (λ k h. low k) (λ k h. high k) in
-      absurd (both_ways _ t (and_parts _ _ (formed_test vs (within_formed vs ws f w))).1))
+      absurd (both_ways _ t (formed_test vs (within_formed vs ws (record { count = refl; ordered = f.ordered; timely = f.timely }) w))))
       (λ (o : all_open lo end (length ws) ≡ false). cond-false _ _ _ o)
       (cases_Bool (all_open lo end (length ws)))
 
@@ -123,5 +130,5 @@ module _ (lo end : ℕ → ℕ) (ws vs : List Window) (set_in : vs ≡ tabulate 
   together_if_fine f low high above =
       ⊎_elim
       (λ (t : all_fine vs ≡ true). together_passed t (above t) ∙ sym (cond-true _ _ _ t))
-      (λ (t : all_fine vs ≡ false). together_failed f low high t ∙ sym (cond-false _ _ _ t))
+      (λ (t : all_fine vs ≡ false). together_failed f low high (not_formed t) ∙ sym (cond-false _ _ _ t))
       (cases_Bool (all_fine vs))

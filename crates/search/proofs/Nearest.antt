@@ -1,6 +1,6 @@
--- The narrowest window: the definition chooses it, and so does a walk that keeps the first with the least slack.
-use Rattle.std.proofs.Common.{◌≡◌, ℕ, zero, suc, ◌+◌, ◌<◌, ◌≤◌, Bool, true, false, cond, ◌&&◌, ltb, leb, Ordering, Less, Equal, Greater, List, [], ◌∷◌, length, fold, Some, None, Option, option_map, sym, refl, ap, ◌∙◌, add-zero, zero-add, subst, ⊎_elim, not-suc-le-zero, arith}
-use Rattle.std.proofs.lemmas.Bool.{cases_Bool, cond-true, cond-false, and_parts, and_cases, ltb-true, ltb-false, leb-true, leb-false}
+-- The narrowest window: the definition chooses it, nothing else is it, and a walk that keeps the first with the least slack finds it.
+use Rattle.std.proofs.Common.{◌≡◌, ℕ, zero, suc, ◌+◌, ◌<◌, ◌≤◌, Bool, true, false, cond, ◌&&◌, ltb, leb, Ordering, Less, Equal, Greater, ◌⊎◌, List, [], ◌∷◌, length, fold, Some, None, Option, option_map, sym, refl, ap, ◌∙◌, add-zero, zero-add, subst, ⊎_elim, not-suc-le-zero, arith}
+use Rattle.std.proofs.lemmas.Bool.{cases_Bool, cases_order, cond-true, cond-false, and_parts, and_cases, ltb-true, ltb-false, leb-true, leb-false}
 use Rattle.std.proofs.lemmas.Bool.Decides.{nat_tests}
 use Rattle.std.proofs.lemmas.Iterator.{YieldsList}
 use Rattle.std.proofs.lemmas.Iterator.Consumers.{reduce_by_from_yields_List}
@@ -64,6 +64,21 @@ first_chooses w ws (Some k) f = first_some w ws k f
 pub narrowest_chooses : (ws : List Window) → Chooses ws (narrowest ws)
 narrowest_chooses [] = λ k h. absurd (not-suc-le-zero h)
 narrowest_chooses (w ∷ ws) = first_chooses w ws (narrowest ws) (narrowest_chooses ws)
+
+-- there is one choice at most
+pub one_choice : (ws : List Window) (p q : Option ℕ) → Chooses ws p → Chooses ws q → p ≡ q
+one_choice ws None None f g = refl
+one_choice ws None (Some k) f g = absurd (omega (arith, f k g.there, g.wide))
+one_choice ws (Some k) None f g = absurd (omega (arith, g k f.there, f.wide))
+one_choice ws (Some k) (Some j) f g =
+    ap Some
+    (⊎_elim
+    (λ (e : k ≡ j). e)
+    (λ (e : (k < j) ⊎ (j < k)). ⊎_elim
+    (λ (l : k < j). absurd (omega (arith, g.lowest k l f.wide, f.least j g.there g.wide)))
+    (λ (l : j < k). absurd (omega (arith, f.lowest j l g.wide, g.least k f.there f.wide)))
+    e)
+    (cases_order k j))
 
 -- the first of two, but the second where that has less slack
 abbrev pub first_of : ℕ × Window → ℕ × Window → ℕ × Window
