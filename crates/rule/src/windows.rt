@@ -24,11 +24,14 @@ pub fn well_formed(jobs: usize, windows: &[Window]) -> bool
 }
 
 /// A copy of the windows of a sheet's jobs.
+// Filled where it is, and no `try_from`: a vector in a `Result` is moved twice, twice the time of a rule on few jobs.
 pub fn copy_of(windows: &[Window]) -> ArrayVec<Window, MAX_JOBS>
     requires { length windows.now ≤ 48 }
     ensures { result.items ≡ windows.now }
 {
-    ArrayVec::try_from(windows).unwrap()
+    let mut copy = ArrayVec::new();
+    let _ = copy.try_extend_from_slice(windows);
+    copy
 }
 
 /// Puts narrowed windows in the place of the old, or is dead where one of them cannot be the window of a job.
